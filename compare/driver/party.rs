@@ -1,0 +1,192 @@
+//! Who is compared, and by what. A party answers requests; a new one, such as a linked library, needs `Entries` only.
+
+use crate::encode;
+use model::entry::{Applied, Fed, Measured, Queried};
+use model::tree::Tree;
+use model::{held, Ask, Edit, Range, Span};
+
+pub use meminterval::probe::Shape;
+
+/// What the words of a lent run hold before a call, so that a word written is told from one left alone.
+pub const UNTOUCHED: u64 = 0xA5A5_5A5A_A5A5_5A5A;
+
+/// One call of a host.
+#[derive(Clone, PartialEq, Debug)]
+pub enum Request {
+    /// The ask by its own entry; a query lends a run of this many words.
+    Direct(Ask, usize),
+    /// The same ask as one record to apply.
+    Record(Ask, usize),
+    /// The edits as records of one feed.
+    Feed(Vec<Edit>),
+    /// Size, height and `is_empty`.
+    Measure,
+}
+
+/// A lent run of words, after the call.
+#[derive(Clone, PartialEq, Default)]
+pub struct Run(pub Vec<u64>);
+
+impl Run {
+    /// A run of so many words, before the call.
+    pub fn lent(words: usize) -> Run {
+        Run(vec![UNTOUCHED; words])
+    }
+}
+
+impl std::fmt::Debug for Run {
+    /// The words up to the last that was written.
+    fn fmt(&self, out: &mut std::fmt::Formatter<'_>) -> std::fmt::Result {
+        let written = self.0.iter().rposition(|word| *word != UNTOUCHED).map_or(0, |last| last + 1);
+        write!(out, "{:?} and {} words untouched", &self.0[..written], self.0.len() - written)
+    }
+}
+
+/// All that a call gave back, zeros where the call gives no such thing.
+#[derive(Clone, PartialEq, Debug, Default)]
+pub struct Reply {
+    pub number: u64,
+    pub hits: u64,
+    pub run: Run,
+    pub records: u64,
+    pub bytes: u64,
+    pub measures: [i64; 3],
+}
+
+pub trait Party {
+    /// How the party is called in a report.
+    fn name(&self) -> &'static str;
+    /// Begins with an empty tree over so many slots.
+    fn format(&mut self, slots: u64);
+    /// Answers a request.
+    fn reply(&mut self, request: &Request) -> Reply;
+    /// The nodes in preorder, or what is wrong with the pool.
+    fn shapes(&self) -> Result<Vec<Shape>, String>;
+    /// The pool's words; none for a party that has no pool.
+    fn words(&self) -> &[u64];
+    /// For each hit of a query the number of pending nodes after it, then their ranges; nothing where it can't be seen.
+    fn trail(&self, query: Range) -> Option<Vec<u64>>;
+}
+
+/// The entries of document 01 on lent words.
+pub trait Entries {
+    /// How the party is called in a report.
+    fn name(&self) -> &'static str;
+    /// Makes the words a fresh pool; gives the number.
+    fn format(&self, words: &mut [u64]) -> u64;
+    /// Inserts, deletes or clears; gives the number.
+    fn edit(&self, words: &mut [u64], edit: &Edit) -> u64;
+    /// Writes the rows of a query's hits, as many as fit.
+    fn query(&self, words: &[u64], span: Span, rows: &mut [u64]) -> Queried;
+    /// Applies one record.
+    fn apply(&self, words: &mut [u64], bytes: &[u8], rows: &mut [u64]) -> Applied;
+    /// Applies records until the bytes end or one is refused.
+    fn feed(&self, words: &mut [u64], bytes: &[u8]) -> Fed;
+    /// Size, height and `is_empty`.
+    fn measures(&self, words: &[u64]) -> [Measured; 3];
+    /// The pending nodes after each hit, as `Party::trail` has them.
+    fn trail(&self, words: &[u64], query: Range) -> Option<Vec<u64>>;
+}
+
+/// A party that keeps a pool for the entries that it calls.
+pub struct Pooled<E: Entries> {
+    pub entries: E,
+    pub words: Vec<u64>,
+}
+
+impl<E: Entries> Pooled<E> {
+    /// The party, still without a pool.
+    pub fn new(entries: E) -> Pooled<E> {
+        Pooled { entries, words: Vec::new() }
+    }
+
+    /// Makes an ask by its own entry.
+    fn direct(&mut self, ask: &Ask, room: usize) -> Reply {
+        let mut run = Run::lent(room);
+        match ask {
+            Ask::Edit(edit) => {
+                let number = self.entries.edit(&mut self.words, edit);
+                Reply { number, run, ..Reply::default() }
+            }
+            Ask::Query(span) => {
+                let Queried { number, hits } = self.entries.query(&self.words, *span, &mut run.0);
+                Reply { number, hits, run, ..Reply::default() }
+            }
+        }
+    }
+
+    /// Makes an ask by its record.
+    fn apply(&mut self, ask: &Ask, room: usize) -> Reply {
+        let mut run = Run::lent(room);
+        let bytes = encode::record(ask).expect("only asks that have a record are applied");
+        let Applied { number, bytes, hits } = self.entries.apply(&mut self.words, &bytes, &mut run.0);
+        Reply { number, hits, run, bytes, ..Reply::default() }
+    }
+}
+
+/// Adds a subtree's nodes in preorder.
+fn add_shapes(tree: &Tree, shapes: &mut Vec<Shape>) {
+    let Some(node) = tree else {
+        return;
+    };
+    let Range { start, end } = node.entry.range;
+    let [left, right] = [&node.left, &node.right].map(|child| u64::from(child.is_some()));
+    shapes.push([start, end, node.entry.value, node.max, node.height as u64, node.size, left, right]);
+    add_shapes(&node.left, shapes);
+    add_shapes(&node.right, shapes);
+}
+
+/// The nodes of a model's tree in preorder.
+pub fn shapes_of(tree: &Tree) -> Vec<Shape> {
+    let mut shapes = Vec::new();
+    add_shapes(tree, &mut shapes);
+    shapes
+}
+
+impl<E: Entries> Party for Pooled<E> {
+    /// The entries' own name.
+    fn name(&self) -> &'static str {
+        self.entries.name()
+    }
+
+    /// Formats words that hold something else before.
+    fn format(&mut self, slots: u64) {
+        self.words = vec![UNTOUCHED; 4 + 6 * slots as usize];
+        assert_eq!(self.entries.format(&mut self.words), 0, "format of {slots} slots");
+    }
+
+    /// Calls the entry that the request names.
+    fn reply(&mut self, request: &Request) -> Reply {
+        match request {
+            Request::Direct(ask, room) => self.direct(ask, *room),
+            Request::Record(ask, room) => self.apply(ask, *room),
+            Request::Feed(edits) => {
+                let Fed { number, records, bytes } = self.entries.feed(&mut self.words, &encode::records(edits));
+                Reply { number, records, bytes, ..Reply::default() }
+            }
+            Request::Measure => {
+                let measured = self.entries.measures(&self.words);
+                let number = measured.iter().map(|one| one.number).max().unwrap_or(0);
+                Reply { number, measures: measured.map(|one| one.measure), ..Reply::default() }
+            }
+        }
+    }
+
+    /// The tree that the words hold, read by the model's soundness check.
+    fn shapes(&self) -> Result<Vec<Shape>, String> {
+        match held(&self.words) {
+            Ok(pool) => Ok(shapes_of(&pool.tree)),
+            Err(clause) => Err(format!("the pool is not sound: {clause:?}")),
+        }
+    }
+
+    /// All words of the pool.
+    fn words(&self) -> &[u64] {
+        &self.words
+    }
+
+    /// What the entries can show.
+    fn trail(&self, query: Range) -> Option<Vec<u64>> {
+        self.entries.trail(&self.words, query)
+    }
+}

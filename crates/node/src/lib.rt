@@ -1,0 +1,162 @@
+// node.rs of the crate: a node's words in its slot. The slots are lent as the words after the header.
+ghost use mathlib.Core.Path.{_≡_};
+ghost use Prim.Native.Nat.{_+_, _*_, _%_, _/_, _≤_, _<_, max};
+ghost use lib.ListN.{length};
+ghost use Rattle.rules.specs.Tree.{Entry, Tree, node, leaf};
+ghost use Rattle.rules.specs.Limits.{half};
+ghost use Rattle.rules.specs.Stored.{slot-word, Within, Left};
+ghost use Rattle.node.specs.Node.{levels-at, size-at, max-at, factor, with-word, with-links, with-entry, entry, Hung, Slot};
+
+// Word i of slot k.
+pub fn word(slots: &[u64], k: u64, i: usize) -> u64
+    requires { ⌜ Within (now slots) k × (i < 6) ⌝ }
+    ensures { λ r. ⌜ r ≡ slot-word (now (slots .entry)) k i ⌝ }
+{
+    slots[(6 * (k - 1)) as usize + i]
+}
+
+// Makes `a` word i of slot k.
+fn set_word(slots: &mut [u64], k: u64, i: usize, a: u64)
+    requires { ⌜ Within (now slots) k × (i < 6) ⌝ }
+    ensures { λ _. ⌜ now (slots .exit) ≡ with-word (now (slots .entry)) k i a ⌝ }
+{
+    slots[(6 * (k - 1)) as usize + i] = a;
+}
+
+// Two numbers as the halves of one word.
+pub fn pack(low: u64, high: u64) -> u64
+    requires { ⌜ (low < half) × (high < half) ⌝ }
+    ensures { λ r. ⌜ r ≡ low + half * high ⌝ }
+{
+    low | high << 16
+}
+
+// The low half of a word: the left child of links, the height of shape.
+pub fn low(word: u64) -> u64
+    ensures { λ r. ⌜ r ≡ word % half ⌝ }
+{
+    word & 65535
+}
+
+// The high half of a word: the right child of links, the size of shape.
+pub fn high(word: u64) -> u64
+    ensures { λ r. ⌜ r ≡ word / half ⌝ }
+{
+    word >> 16
+}
+
+// One more than the height of what is in slot s, 0 for none.
+pub fn height(slots: &[u64], s: u64) -> u64
+    requires { ⌜ 6 * s ≤ length (now slots) ⌝ }
+    ensures { λ r. ⌜ r ≡ levels-at (now (slots .entry)) s ⌝ }
+{
+    if s == 0 {
+        0
+    } else {
+        low(word(slots, s, 5)) + 1
+    }
+}
+
+// The size of what is in slot s, 0 for none.
+pub fn size(slots: &[u64], s: u64) -> u64
+    requires { ⌜ 6 * s ≤ length (now slots) ⌝ }
+    ensures { λ r. ⌜ r ≡ size-at (now (slots .entry)) s ⌝ }
+{
+    if s == 0 { 0 } else { high(word(slots, s, 5)) }
+}
+
+// The largest end of what is in slot s, 0 for none.
+pub fn max_end(slots: &[u64], s: u64) -> u64
+    requires { ⌜ 6 * s ≤ length (now slots) ⌝ }
+    ensures { λ r. ⌜ r ≡ max-at (now (slots .entry)) s ⌝ }
+{
+    if s == 0 { 0 } else { word(slots, s, 3) }
+}
+
+// Where a factor lies, as far as `balance` asks.
+pub enum Factor {
+    BelowMinusOne,
+    Between,
+    AboveOne,
+}
+
+// Where left height minus right height lies, of two heights that are each one more than the crate's.
+pub fn balance_factor(left: u64, right: u64) -> Factor
+    requires { ⌜ (left < half) × (right < half) ⌝ }
+    ensures { λ r. ⌜ r ≡ factor left right ⌝ }
+{
+    if left + 1 < right {
+        return Factor::BelowMinusOne;
+    }
+    if right + 1 < left {
+        return Factor::AboveOne;
+    }
+    Factor::Between
+}
+
+// The larger of two numbers.
+fn larger(a: u64, b: u64) -> u64
+    ensures { λ r. ⌜ r ≡ max a b ⌝ }
+{
+    if a < b { b } else { a }
+}
+
+// The max of slot k, from its end and its children's max.
+fn update_max(slots: &[u64], k: u64, l: u64, r: u64) -> u64
+    requires { ⌜ Within (now slots) k × (6 * l ≤ length (now slots)) × (6 * r ≤ length (now slots)) ⌝ }
+    ensures { λ m. ⌜ m ≡ max (slot-word (now (slots .entry)) k 1) (max (max-at (now (slots .entry)) l) (max-at (now (slots .entry)) r)) ⌝ }
+{
+    larger(
+        word(slots, k, 1),
+        larger(max_end(slots, l), max_end(slots, r)),
+    )
+}
+
+// The shape over two children: one more than the larger height, and one more than both sizes.
+fn update_shape(slots: &[u64], l: u64, r: u64) -> u64
+    requires { ⌜ (6 * l ≤ length (now slots)) × (6 * r ≤ length (now slots)) × (levels-at (now slots) l < half) × (levels-at (now slots) r < half) × (size-at (now slots) l + size-at (now slots) r + 1 < half) ⌝ }
+    ensures { λ w. ⌜ w ≡ max (levels-at (now (slots .entry)) l) (levels-at (now (slots .entry)) r) + half * (size-at (now (slots .entry)) l + size-at (now (slots .entry)) r + 1) ⌝ }
+{
+    let height = larger(height(slots, l), height(slots, r));
+    let size = size(slots, l) + size(slots, r) + 1;
+    pack(height, size)
+}
+
+// Makes `max`, `links` and `shape` the last three words of slot k.
+fn set_links(slots: &mut [u64], k: u64, max: u64, links: u64, shape: u64)
+    requires { ⌜ Within (now slots) k ⌝ }
+    ensures { λ _. ⌜ now (slots .exit) ≡ with-links (now (slots .entry)) k max links shape ⌝ }
+{
+    set_word(slots, k, 3, max);
+    set_word(slots, k, 4, links);
+    set_word(slots, k, 5, shape);
+}
+
+// Makes l and r the children of the entry in slot k, and its height, size and max exact.
+pub fn update(slots: &mut [u64], k: u64, l: u64, r: u64)
+    requires { ⌜ ((e : Entry) × (a : Tree) × (b : Tree) × Hung (now slots) k l r e a b) ⌝ }
+    ensures { λ _. ⌜ ((e : Entry) (a b : Tree) → Hung (now (slots .entry)) k l r e a b → Left (now (slots .entry)) (now (slots .exit)) k (node e a b)) ⌝ }
+{
+    let max = update_max(slots, k, l, r);
+    let shape = update_shape(slots, l, r);
+    set_links(slots, k, max, pack(l, r), shape);
+}
+
+// Makes `start`, `end` and `value` the first three words of slot k.
+fn set_entry(slots: &mut [u64], k: u64, start: u64, end: u64, value: u64)
+    requires { ⌜ Within (now slots) k ⌝ }
+    ensures { λ _. ⌜ now (slots .exit) ≡ with-entry (now (slots .entry)) k start end value ⌝ }
+{
+    set_word(slots, k, 0, start);
+    set_word(slots, k, 1, end);
+    set_word(slots, k, 2, value);
+}
+
+// Makes slot k a node of its own: the range start..end with its value and no children.
+pub fn new(slots: &mut [u64], k: u64, start: u64, end: u64, value: u64)
+    requires { ⌜ Slot (now slots) k ⌝ }
+    ensures { λ _. ⌜ Left (now (slots .entry)) (now (slots .exit)) k (node (entry k start end value) leaf leaf) ⌝ }
+{
+    set_entry(slots, k, start, end, value);
+    update(slots, k, 0, 0);
+}

@@ -1,0 +1,1 @@
+// No code: this crate holds the definitions of document 01 (specs/) and their laws (proofs/).

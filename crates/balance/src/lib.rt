@@ -3,7 +3,7 @@ use node::Factor;
 ghost use mathlib.Core.Path.{_≡_};
 ghost use Prim.Native.Nat.{_%_, _/_, _≤_};
 ghost use Rattle.rules.specs.Tree.{Entry, Tree, levels};
-ghost use Rattle.rules.specs.Balance.{join, lift, straight, mend, balance, near, far, other};
+ghost use Rattle.rules.specs.Balance.{join, lift, straight, mend, balance, balanced-join, near, other};
 ghost use Rattle.rules.specs.Limits.{half};
 ghost use Rattle.rules.specs.Stored.{slot-word, Within, Rooted};
 ghost use Rattle.rules.specs.Stored as stored;
@@ -27,7 +27,7 @@ fn on_side(side: Side, left: u64, right: u64) -> u64
 }
 
 // The other side.
-fn opposite(side: Side) -> Side
+pub fn opposite(side: Side) -> Side
     ensures { λ r. ⌜ side-of r ≡ other (side-of side) ⌝ }
 {
     match side {
@@ -37,7 +37,7 @@ fn opposite(side: Side) -> Side
 }
 
 // The child of slot k on the side, 0 for none.
-fn child(slots: &[u64], side: Side, k: u64) -> u64
+pub fn child(slots: &[u64], side: Side, k: u64) -> u64
     requires { ⌜ Within (now slots) k ⌝ }
     ensures { λ r. ⌜ r ≡ near (side-of side) (slot-word (now (slots .entry)) k 4 % half) (slot-word (now (slots .entry)) k 4 / half) ⌝ }
 {
@@ -105,5 +105,17 @@ pub fn balance(slots: &mut [u64], k: u64, l: u64, r: u64) -> u64
             node::update(slots, k, l, r);
             k
         }
+    }
+}
+
+// Makes a the child of slot k on the side and b its child on the other side, and balances it. Answers the slot that is
+// then on top.
+pub fn rebalance(slots: &mut [u64], side: Side, k: u64, a: u64, b: u64) -> u64
+    requires { ⌜ ((e : Entry) × (t : Tree) × (u : Tree) × Hung (now slots) k a b e t u) ⌝ }
+    ensures { λ top. ⌜ ((e : Entry) (t u : Tree) → Hung (now (slots .entry)) k a b e t u → stored.Left (now (slots .entry)) (now (slots .exit)) top (balanced-join (side-of side) e t u)) ⌝ }
+{
+    match side {
+        Side::Left => balance(slots, k, a, b),
+        Side::Right => balance(slots, k, b, a),
     }
 }

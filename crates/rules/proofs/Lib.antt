@@ -28,3 +28,11 @@ pub mod ExamplesRecords
 pub mod ExamplesRefused
 pub mod ExamplesTree
 pub mod Table
+pub mod Agreeing
+pub mod Applying
+pub mod Bytes
+pub mod Demand
+pub mod Feeding
+pub mod Following
+pub mod Refused
+pub mod Serving

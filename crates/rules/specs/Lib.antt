@@ -13,3 +13,4 @@ pub mod Record
 pub mod Feed
 pub mod Entries
 pub mod History
+pub mod Calls

@@ -1,0 +1,115 @@
+-- `delete_end` takes the outermost entry on the side off. The measure is the stored height. Assumes nothing.
+use Prim.Native.Nat.{ℕ, _<_}
+use borrow.Author.Needs.{needs}
+use borrow.Fn.Kinds.{In}
+use borrow.Fn.PlainCycle.{Measures, is, falls, and}
+use Rattle.node.specs.Node.{levels-at}
+use Rattle.balance.specs.Sides.{side-of}
+use Rattle.balance.proofs.Sides.{far-from-other}
+use Rattle.balance.proofs.Mended.{root-within}
+use Rattle.tree.proofs.Shedding.{sheds-last, goes-out, hangs-shed, sheds-below}
+use Rattle.tree.proofs.delete_end.Reads as delete-end
+use Rattle.tree.proofs.delete_end.Kinds as delete-end-kinds
+use Rattle.tree.proofs.+delete_end.Lts-delete_end as delete-end-lts
+use Rattle.balance.proofs.child.Reads as child-reads
+use Rattle.balance.proofs.opposite.Reads as opposite-reads
+use Rattle.balance.proofs.rebalance.Reads as rebalance-reads
+use Rattle.tree.proofs.+delete_end.{statement}
+use Rattle.tree.proofs.+delete_end.Tie.{close}
+
+abbrev μ-delete-end : Measures 1 delete-end-kinds.ps ℕ
+μ-delete-end κs a = levels-at (a .0 .now) (a .1 .1 .0)
+
+abbrev delete-end-at : ℕ → In 1 delete-end-kinds.ps
+delete-end-at t = and 1 delete-end-kinds.ps (is 1 delete-end-kinds.ps μ-delete-end t) delete-end.Pre
+
+abbrev delete-end-below : ℕ → In 1 delete-end-kinds.ps
+delete-end-below t = and 1 delete-end-kinds.ps (falls 1 delete-end-kinds.ps _<_ μ-delete-end t) delete-end.Pre
+
+-- what the callees ask and promise
+abbrev calls : ℕ → delete-end-lts.Claims
+calls t = (
+  child-reads.Asked,
+  child-reads.Learnt,
+  opposite-reads.Asked,
+  opposite-reads.Learnt,
+  delete-end-below t,
+  delete-end.Post,
+  rebalance-reads.Asked,
+  rebalance-reads.Learnt,
+)
+
+module _ (t : ℕ) where
+  child-requires : delete-end-lts.Need-child-requires (calls t) (delete-end-at t) delete-end.Post
+  child-requires c κs = let p = c .before .before .pre .1 in root-within (p .0) (p .1) (p .2)
+
+  opposite-requires : delete-end-lts.Need-opposite-requires (calls t) (delete-end-at t) delete-end.Post
+  opposite-requires c κs = search needs
+
+  child-requires-2 : delete-end-lts.Need-child-requires-2 (calls t) (delete-end-at t) delete-end.Post
+  child-requires-2 c κs = let p = c .before .before .before .before .before .pre .1 in root-within (p .0) (p .1) (p .2)
+
+  same-length : delete-end-lts.Need-same-length (calls t) (delete-end-at t) delete-end.Post
+  same-length c = search needs
+
+  returns : delete-end-lts.Need-returns (calls t) (delete-end-at t) delete-end.Post
+  returns c u p tall =
+      let d = c .before in
+      let first = d .before .before .before in
+      let start = first .before .before .before in
+      let s = side-of (start .args .side) in
+      let fars = far-from-other s _ _ (d .before .opposite .ensures) (d .child2 .ensures) in
+      let nears = first .child .ensures in
+      sheds-last s nears fars u p tall (c .if1 .taken)
+
+  delete-end-requires : delete-end-lts.Need-delete-end-requires (calls t) (delete-end-at t) delete-end.Post
+  delete-end-requires c κs =
+      let d = c .before .before in
+      let first = d .before .before .before in
+      let start = first .before .before .before in
+      let s = side-of (start .args .side) in
+      let fars = far-from-other s _ _ (d .before .opposite .ensures) (d .child2 .ensures) in
+      let nears = first .child .ensures in
+      let p = start .pre in
+      let out = goes-out s nears fars (p .1 .0) (p .1 .1) (p .1 .2) (c .before .if1 .left) in
+      (rw (← p .0) (out .0), out .1)
+
+  rebalance-requires : delete-end-lts.Need-rebalance-requires (calls t) (delete-end-at t) delete-end.Post
+  rebalance-requires c κs =
+      let d = c .before .before .before .before .before .before in
+      let first = d .before .before .before in
+      let start = first .before .before .before in
+      let s = side-of (start .args .side) in
+      let fars = far-from-other s _ _ (d .before .opposite .ensures) (d .child2 .ensures) in
+      let nears = first .child .ensures in
+      let p = start .pre .1 in
+      hangs-shed s nears fars (p .0) (p .1) (p .2) (c .before .before .before .before .before .if1 .left) (c .before .before .before .delete-end .ensures)
+
+  same-length-2 : delete-end-lts.Need-same-length-2 (calls t) (delete-end-at t) delete-end.Post
+  same-length-2 c = search needs
+
+  returns-2 : delete-end-lts.Need-returns-2 (calls t) (delete-end-at t) delete-end.Post
+  returns-2 c u p tall =
+      let d = c .before .before .before .before .before .before .before .before .before in
+      let first = d .before .before .before in
+      let start = first .before .before .before in
+      let s = side-of (start .args .side) in
+      let fars = far-from-other s _ _ (d .before .opposite .ensures) (d .child2 .ensures) in
+      let nears = first .child .ensures in
+      sheds-below s nears fars u p tall (c .before .before .before .before .before .before .before .before .if1 .left) (c .before .before .before .before .before .before .delete-end .ensures)
+      (c .before .before .rebalance .ensures)
+
+pub +delete-end-spec : {M : Type 1} → statement M
++delete-end-spec =
+    close μ-delete-end
+    (λ t.
+    delete-end-lts.spec (calls t) (delete-end-at t) delete-end.Post
+    (child-requires t)
+    (opposite-requires t)
+    (child-requires-2 t)
+    (same-length t)
+    (returns t)
+    (delete-end-requires t)
+    (rebalance-requires t)
+    (same-length-2 t)
+    (returns-2 t))

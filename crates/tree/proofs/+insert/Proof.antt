@@ -1,0 +1,256 @@
+-- `insert` leaves the rules' tree, or nothing changed where the range was there. The measure is the stored height.
+-- Assumes nothing.
+use Prim.Native.Nat.{ℕ, _<_}
+use mathlib.Core.Path.{_≡_, sym, _∙_}
+use borrow.Author.Needs.{needs}
+use borrow.Fn.Kinds.{In}
+use borrow.Fn.PlainCycle.{Measures, is, falls, and}
+use Rattle.rules.specs.Balance.{left, right}
+use Rattle.node.specs.Node.{levels-at, entry}
+use Rattle.tree.proofs.Hanging.{at-slot, order-told}
+use Rattle.tree.proofs.Inserting.{new-slot, into-none, into-there, goes-down, hangs, inserted-below, there-below}
+use Rattle.tree.proofs.insert.Reads as insert
+use Rattle.tree.proofs.insert.Kinds as insert-kinds
+use Rattle.tree.proofs.+insert.Lts-insert as insert-lts
+use Rattle.balance.proofs.balance.Reads as balance-reads
+use Rattle.balance.proofs.child.Reads as child-reads
+use Rattle.interval.proofs.Interval.cmp.Reads as cmp-reads
+use Rattle.node.proofs.new.Reads as new-reads
+use Rattle.tree.proofs.interval_at.Reads as interval-at-reads
+use Rattle.tree.proofs.+insert.{statement}
+use Rattle.tree.proofs.+insert.Tie.{close}
+
+abbrev μ-insert : Measures 1 insert-kinds.ps ℕ
+μ-insert κs a = levels-at (a .0 .now) (a .1 .0)
+
+abbrev insert-at : ℕ → In 1 insert-kinds.ps
+insert-at t = and 1 insert-kinds.ps (is 1 insert-kinds.ps μ-insert t) insert.Pre
+
+abbrev insert-below : ℕ → In 1 insert-kinds.ps
+insert-below t = and 1 insert-kinds.ps (falls 1 insert-kinds.ps _<_ μ-insert t) insert.Pre
+
+-- what the callees ask and promise
+abbrev calls : ℕ → insert-lts.Claims
+calls t = (
+  new-reads.Asked,
+  new-reads.Learnt,
+  child-reads.Asked,
+  child-reads.Learnt,
+  interval-at-reads.Asked,
+  interval-at-reads.Learnt,
+  cmp-reads.Asked,
+  cmp-reads.Learnt,
+  insert-below t,
+  insert.Post,
+  balance-reads.Asked,
+  balance-reads.Learnt,
+)
+
+module _ (t : ℕ) where
+  new-requires : insert-lts.Need-new-requires (calls t) (insert-at t) insert.Post
+  new-requires c κs = new-slot (c .before .before .before .pre .1 .1)
+
+  same-length : insert-lts.Need-same-length (calls t) (insert-at t) insert.Post
+  same-length c = search needs
+
+  returns : insert-lts.Need-returns (calls t) (insert-at t) insert.Post
+  returns c u p =
+      let start = c .before .before .before .before .before .before in
+      let a = start .args in
+      into-none (entry (a .new) (a .key .start) (a .key .end) (a .value)) u (c .before .before .before .before .if1 .taken) p
+      (c .before .before .new .ensures)
+
+  child-requires : insert-lts.Need-child-requires (calls t) (insert-at t) insert.Post
+  child-requires c κs = let p = c .before .before .before .pre .1 in at-slot (p .0) (p .1 .rooted) (c .before .if1 .left)
+
+  child-requires-2 : insert-lts.Need-child-requires-2 (calls t) (insert-at t) insert.Post
+  child-requires-2 c κs = let p = c .before .before .before .before .before .pre .1 in at-slot (p .0) (p .1 .rooted) (c .before .before .before .if1 .left)
+
+  interval-at-requires : insert-lts.Need-interval-at-requires (calls t) (insert-at t) insert.Post
+  interval-at-requires c κs = let p = c .before .before .before .before .before .before .before .pre .1 in at-slot (p .0) (p .1 .rooted) (c .before .before .before .before .before .if1 .left)
+
+  cmp-requires : insert-lts.Need-cmp-requires (calls t) (insert-at t) insert.Post
+  cmp-requires c κs = search needs
+
+  enum-told : insert-lts.Need-enum-told (calls t) (insert-at t) insert.Post
+  enum-told c = search needs
+
+  insert-requires : insert-lts.Need-insert-requires (calls t) (insert-at t) insert.Post
+  insert-requires c κs =
+      let d = c .before .before .before in
+      let start = d .before .before .before .before .before .before .before .before .before in
+      let a = start .args in
+      let x = entry (a .new) (a .key .start) (a .key .end) (a .value) in
+      let there = d .before .before .before .before .before .before .before .if1 .left in
+      let lefts = d .before .before .before .before .before .child .ensures in
+      let rights = d .before .before .before .child2 .ensures in
+      let p = start .pre in
+      let down = goes-down left x lefts rights (order-told (x .range) (d .cmp .ensures) (d .before .interval-at .ensures) (c .before .enum-told .given .1)) (p .1 .0) there (p .1 .1) in
+      (rw (← p .0) (down .0), down .1)
+
+  enum-known-below : insert-lts.Need-enum-known-below (calls t) (insert-at t) insert.Post
+  enum-known-below c = search needs
+
+  balance-requires : insert-lts.Need-balance-requires (calls t) (insert-at t) insert.Post
+  balance-requires c κs =
+      let d = c .before .before .before .before .before .before .before .before .before .before in
+      let start = d .before .before .before .before .before .before .before .before .before in
+      let a = start .args in
+      let x = entry (a .new) (a .key .start) (a .key .end) (a .value) in
+      let there = d .before .before .before .before .before .before .before .if1 .left in
+      let lefts = d .before .before .before .before .before .child .ensures in
+      let rights = d .before .before .before .child2 .ensures in
+      let p = start .pre .1 in
+      hangs left x lefts rights (order-told (x .range) (d .cmp .ensures) (d .before .interval-at .ensures) (c .before .before .before .before .before .before .before .before .enum-told .given .1)) (p .0) there (p .1)
+      (rw (c .before .before .below .given .1) at (c .before .before .before .before .before .before .insert .ensures))
+
+  enum-told-2 : insert-lts.Need-enum-told-2 (calls t) (insert-at t) insert.Post
+  enum-told-2 c = search needs
+
+  enum-told-3 : insert-lts.Need-enum-told-3 (calls t) (insert-at t) insert.Post
+  enum-told-3 c = search needs
+
+  insert-requires-2 : insert-lts.Need-insert-requires-2 (calls t) (insert-at t) insert.Post
+  insert-requires-2 c κs =
+      let d = c .before .before .before in
+      let start = d .before .before .before .before .before .before .before .before .before in
+      let a = start .args in
+      let x = entry (a .new) (a .key .start) (a .key .end) (a .value) in
+      let there = d .before .before .before .before .before .before .before .if1 .left in
+      let lefts = d .before .before .before .before .before .child .ensures in
+      let rights = d .before .before .before .child2 .ensures in
+      let p = start .pre in
+      let down = goes-down right x rights lefts (order-told (x .range) (d .cmp .ensures) (d .before .interval-at .ensures) (c .before .enum-told3 .given .1)) (p .1 .0) there (p .1 .1) in
+      (rw (← p .0) (down .0), down .1)
+
+  enum-known-below-2 : insert-lts.Need-enum-known-below-2 (calls t) (insert-at t) insert.Post
+  enum-known-below-2 c = search needs
+
+  balance-requires-2 : insert-lts.Need-balance-requires-2 (calls t) (insert-at t) insert.Post
+  balance-requires-2 c κs =
+      let d = c .before .before .before .before .before .before .before .before .before .before in
+      let start = d .before .before .before .before .before .before .before .before .before in
+      let a = start .args in
+      let x = entry (a .new) (a .key .start) (a .key .end) (a .value) in
+      let there = d .before .before .before .before .before .before .before .if1 .left in
+      let lefts = d .before .before .before .before .before .child .ensures in
+      let rights = d .before .before .before .child2 .ensures in
+      let p = start .pre .1 in
+      hangs right x rights lefts (order-told (x .range) (d .cmp .ensures) (d .before .interval-at .ensures) (c .before .before .before .before .before .before .before .before .enum-told3 .given .1)) (p .0) there (p .1)
+      (rw (c .before .before .below2 .given .1) at (c .before .before .before .before .before .before .insert2 .ensures))
+
+  enum-told-4 : insert-lts.Need-enum-told-4 (calls t) (insert-at t) insert.Post
+  enum-told-4 c = search needs
+
+  enum-told-5 : insert-lts.Need-enum-told-5 (calls t) (insert-at t) insert.Post
+  enum-told-5 c = search needs
+
+  same-length-2 : insert-lts.Need-same-length-2 (calls t) (insert-at t) insert.Post
+  same-length-2 c = search needs
+
+  returns-2 : insert-lts.Need-returns-2 (calls t) (insert-at t) insert.Post
+  returns-2 c u p =
+      let d = c .before .before .before .before .before .before .before .before .before .before .before .before .before in
+      let start = d .before .before .before .before .before .before .before .before .before in
+      let a = start .args in
+      let x = entry (a .new) (a .key .start) (a .key .end) (a .value) in
+      let there = d .before .before .before .before .before .before .before .if1 .left in
+      let lefts = d .before .before .before .before .before .child .ensures in
+      let rights = d .before .before .before .child2 .ensures in
+      inserted-below left x lefts rights (order-told (x .range) (d .cmp .ensures) (d .before .interval-at .ensures) (c .before .before .before .before .before .before .before .before .before .before .before .enum-told .given .1)) u there p
+      (rw (c .before .before .before .before .before .below .given .1) at (c .before .before .before .before .before .before .before .before .before .insert .ensures))
+      (c .before .before .balance .ensures)
+
+  same-length-3 : insert-lts.Need-same-length-3 (calls t) (insert-at t) insert.Post
+  same-length-3 c = search needs
+
+  returns-3 : insert-lts.Need-returns-3 (calls t) (insert-at t) insert.Post
+  returns-3 c u p =
+      let d = c .before .before .before .before .before .before .before .before in
+      let start = d .before .before .before .before .before .before .before .before .before in
+      let a = start .args in
+      let x = entry (a .new) (a .key .start) (a .key .end) (a .value) in
+      let there = d .before .before .before .before .before .before .before .if1 .left in
+      let lefts = d .before .before .before .before .before .child .ensures in
+      let rights = d .before .before .before .child2 .ensures in
+      there-below left x lefts rights (order-told (x .range) (d .cmp .ensures) (d .before .interval-at .ensures) (c .before .before .before .before .before .before .enum-told .given .1)) u there p
+      (rw (c .enum-told2 .given .1) at (c .before .before .before .before .insert .ensures))
+
+  same-length-4 : insert-lts.Need-same-length-4 (calls t) (insert-at t) insert.Post
+  same-length-4 c = search needs
+
+  returns-4 : insert-lts.Need-returns-4 (calls t) (insert-at t) insert.Post
+  returns-4 c u p =
+      let d = c .before .before .before .before .before .before .before .before .before .before .before .before .before in
+      let start = d .before .before .before .before .before .before .before .before .before in
+      let a = start .args in
+      let x = entry (a .new) (a .key .start) (a .key .end) (a .value) in
+      let there = d .before .before .before .before .before .before .before .if1 .left in
+      let lefts = d .before .before .before .before .before .child .ensures in
+      let rights = d .before .before .before .child2 .ensures in
+      inserted-below right x rights lefts (order-told (x .range) (d .cmp .ensures) (d .before .interval-at .ensures) (c .before .before .before .before .before .before .before .before .before .before .before .enum-told3 .given .1)) u there p
+      (rw (c .before .before .before .before .before .below2 .given .1) at (c .before .before .before .before .before .before .before .before .before .insert2 .ensures))
+      (c .before .before .balance2 .ensures)
+
+  same-length-5 : insert-lts.Need-same-length-5 (calls t) (insert-at t) insert.Post
+  same-length-5 c = search needs
+
+  returns-5 : insert-lts.Need-returns-5 (calls t) (insert-at t) insert.Post
+  returns-5 c u p =
+      let d = c .before .before .before .before .before .before .before .before in
+      let start = d .before .before .before .before .before .before .before .before .before in
+      let a = start .args in
+      let x = entry (a .new) (a .key .start) (a .key .end) (a .value) in
+      let there = d .before .before .before .before .before .before .before .if1 .left in
+      let lefts = d .before .before .before .before .before .child .ensures in
+      let rights = d .before .before .before .child2 .ensures in
+      there-below right x rights lefts (order-told (x .range) (d .cmp .ensures) (d .before .interval-at .ensures) (c .before .before .before .before .before .before .enum-told3 .given .1)) u there p
+      (rw (c .enum-told4 .given .1) at (c .before .before .before .before .insert2 .ensures))
+
+  same-length-6 : insert-lts.Need-same-length-6 (calls t) (insert-at t) insert.Post
+  same-length-6 c = search needs
+
+  returns-6 : insert-lts.Need-returns-6 (calls t) (insert-at t) insert.Post
+  returns-6 c u p =
+      let d = c .before .before in
+      let start = d .before .before .before .before .before .before .before .before .before in
+      let a = start .args in
+      let x = entry (a .new) (a .key .start) (a .key .end) (a .value) in
+      let there = d .before .before .before .before .before .before .before .if1 .left in
+      let lefts = d .before .before .before .before .before .child .ensures in
+      let rights = d .before .before .before .child2 .ensures in
+      into-there x u there p (order-told (x .range) (d .cmp .ensures) (d .before .interval-at .ensures) (c .enum-told5 .given .1))
+
+pub +insert-spec : {M : Type 1} → statement M
++insert-spec =
+    close μ-insert
+    (λ t.
+    insert-lts.spec (calls t) (insert-at t) insert.Post
+    (new-requires t)
+    (same-length t)
+    (returns t)
+    (child-requires t)
+    (child-requires-2 t)
+    (interval-at-requires t)
+    (cmp-requires t)
+    (enum-told t)
+    (insert-requires t)
+    (enum-known-below t)
+    (balance-requires t)
+    (enum-told-2 t)
+    (enum-told-3 t)
+    (insert-requires-2 t)
+    (enum-known-below-2 t)
+    (balance-requires-2 t)
+    (enum-told-4 t)
+    (enum-told-5 t)
+    (same-length-2 t)
+    (returns-2 t)
+    (same-length-3 t)
+    (returns-3 t)
+    (same-length-4 t)
+    (returns-4 t)
+    (same-length-5 t)
+    (returns-5 t)
+    (same-length-6 t)
+    (returns-6 t))

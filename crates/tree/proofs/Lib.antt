@@ -4,3 +4,4 @@ pub mod Inserting
 pub mod Shedding
 pub mod Deleting
 pub mod Removing
+pub mod Containing

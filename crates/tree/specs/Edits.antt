@@ -1,5 +1,6 @@
 -- What insert and the removals are given and leave, in the words of the slots.
 use Prim.Native.Nat.{ℕ, _+_, _≤_}
+use mathlib.Core.Bool.{Bool, true, false}
 use mathlib.Core.List.{List}
 use mathlib.Core.Option.{Option, none, some}
 use mathlib.Core.Path.{_≡_}
@@ -14,6 +15,11 @@ use Rattle.tree.specs.declared.Deleted.the-variants.{Gone, Absent}
 use Rattle.tree.specs.declared.Removed.{Removed}
 use Rattle.tree.specs.declared.Inserted.{Inserted}
 use Rattle.tree.specs.declared.Inserted.the-variants.{At, There}
+
+-- whether something was found
+abbrev pub is-some : Option Entry → Bool
+is-some none = false
+is-some (some e) = true
 
 -- the tree t is rooted in slot k, and `new` is a slot that is none of its own
 pub record Inserting (ss : List ℕ) (k new : ℕ) (t : Tree) : Type 0 where

@@ -5,13 +5,13 @@ use interval::Ordering;
 ghost use mathlib.Core.Path.{_≡_};
 ghost use Rattle.rules.specs.Range.{range};
 ghost use Rattle.rules.specs.Tree.{Entry, Tree, levels};
-ghost use Rattle.rules.specs.Edit.{close};
+ghost use Rattle.rules.specs.Edit.{find, close};
 ghost use Rattle.rules.specs.Stored.{slot-word, Within, Rooted, Left};
 ghost use Rattle.node.specs.Node.{entry};
 ghost use Rattle.interval.specs.Interval.{range-of};
 ghost use Prim.Native.Nat.{_≤_};
 ghost use Rattle.balance.specs.Sides.{side-of};
-ghost use Rattle.tree.specs.Edits.{Inserting, Inserts, Sheds, Pair, Deletes};
+ghost use Rattle.tree.specs.Edits.{is-some, Inserting, Inserts, Sheds, Pair, Deletes};
 
 // What an insert did: the tree is now rooted in a slot, or the range was there and nothing changed.
 pub enum Inserted {
@@ -39,6 +39,21 @@ fn interval_at(slots: &[u64], k: u64) -> Interval
     let start = node::word(slots, k, 0);
     let end = node::word(slots, k, 1);
     Interval { start, end }
+}
+
+// Whether the tree rooted in slot k has the range.
+pub fn contains(slots: &[u64], k: u64, key: Interval) -> bool
+    requires { ⌜ ((t : Tree) × Rooted (now slots) k t) ⌝ }
+    ensures { λ r. ⌜ ((t : Tree) → Rooted (now (slots .entry)) k t → r ≡ is-some (find (range-of key) t)) ⌝ }
+{
+    if k == 0 {
+        return false;
+    }
+    match key.cmp(interval_at(slots, k)) {
+        Ordering::Less => contains(slots, balance::child(slots, Side::Left, k), key),
+        Ordering::Greater => contains(slots, balance::child(slots, Side::Right, k), key),
+        Ordering::Equal => true,
+    }
 }
 
 // Puts the range with its value into the tree rooted in slot k, as a node in the slot `new`, unless the range is there.

@@ -1,0 +1,6 @@
+-- The laws of requests to a sound pool.
+pub mod Laying
+pub mod Putting
+pub mod Taking
+pub mod Ranged
+pub mod Hitless

@@ -1,0 +1,110 @@
+-- `insert` answers as the rules do, and leaves the rules' words. Assumes nothing.
+use mathlib.Core.Path.{sym, _∙_}
+use borrow.Author.Needs.{needs}
+use native.Mathlib.Omega.{arith}
+use Rattle.rules.proofs.Stored.{holds-rooted}
+use Rattle.interval.specs.Interval.{range-of}
+use Rattle.serve.proofs.Laying.{header-there}
+use Rattle.serve.proofs.Putting.{inserting-first, free-within, claimable, answers-there, answers-full, answers-kept, answers-claimed}
+use Rattle.serve.proofs.insert.Statement.{statement}
+use Rattle.serve.proofs.insert.Tie as tie
+
+slice-read-root : tie.Need-slice-read-root
+slice-read-root c = let there = header-there (c .before .before .pre .1) in omega arith
+
+slice-read-free : tie.Need-slice-read-free
+slice-read-free c = let there = header-there (c .before .before .before .pre .1) in omega arith
+
+contains-slot-requires : tie.Need-contains-slot-requires
+contains-slot-requires c κs =
+    let p = c .before .before .before .before .before .pre in
+    let there = header-there (p .1) in
+    (omega arith, (p .0 .tree, holds-rooted (p .1)))
+
+same-length : tie.Need-same-length
+same-length c = search needs
+
+returns : tie.Need-returns
+returns c p h =
+    let start = c .before .before .before .before .before .before .before in
+    answers-there (range-of (start .args .key)) (start .args .value) h
+    (sym (c .if2 .taken) ∙ c .before .contains-slot .ensures (p .tree) (holds-rooted h))
+
+same-length-2 : tie.Need-same-length-2
+same-length-2 c = search needs
+
+returns-2 : tie.Need-returns-2
+returns-2 c p h =
+    let start = c .before .before .before .before .before .before .before in
+    answers-full p (range-of (start .args .key)) (start .args .value) h (c .before .before .before .if1 .taken)
+    (sym (c .if2 .left) ∙ c .before .contains-slot .ensures (p .tree) (holds-rooted h))
+
+next-free-requires : tie.Need-next-free-requires
+next-free-requires c κs =
+    let p = c .before .before .before .before .before .pre in
+    let there = header-there (p .1) in
+    (omega arith, free-within (p .0) (p .1) (c .before .if1 .left))
+
+insert-slot-requires : tie.Need-insert-slot-requires
+insert-slot-requires c κs =
+    let p = c .before .before .before .before .before .before .before .pre in
+    let there = header-there (p .1) in
+    (omega arith, (p .0 .tree, inserting-first (p .0) (p .1) (c .before .before .before .if1 .left)))
+
+enum-known-top : tie.Need-enum-known-top
+enum-known-top c = search needs
+
+claim-requires : tie.Need-claim-requires
+claim-requires c κs =
+    let p = c .before .before .before .before .before .before .before .before .before .before .before .before .before .before .pre in
+    let put = c .before .before .before .before .before .before .insert-slot in
+    claimable (put .last .0) (p .0) (p .1) (put .ensures .0) (put .kept .0)
+
+enum-told : tie.Need-enum-told
+enum-told c = search needs
+
+same-length-3 : tie.Need-same-length-3
+same-length-3 c = search needs
+
+returns-3 : tie.Need-returns-3
+returns-3 c p h =
+    let called = c .before .before .before .before .before .before .before .before .before in
+    let put = called .insert-slot in
+    let start = called .before .before .before .before .before .before .before .before in
+    answers-claimed (put .last .0) p (range-of (start .args .key)) (start .args .value) h (called .before .before .before .before .if1 .left) (put .ensures .0)
+    (rw (c .before .before .before .before .before .top .given .1) at (put .ensures .1))
+    (put .kept .0)
+    (called .before .before .next-free .ensures)
+    (c .before .before .claim .ensures)
+
+same-length-4 : tie.Need-same-length-4
+same-length-4 c = search needs
+
+returns-4 : tie.Need-returns-4
+returns-4 c p h =
+    let called = c .before .before .before .before in
+    let put = called .insert-slot in
+    let start = called .before .before .before .before .before .before .before .before in
+    answers-kept p (range-of (start .args .key)) (start .args .value) h (called .before .before .before .before .if1 .left) (put .ensures .0)
+    (rw (c .enum-told .given .1) at (put .ensures .1))
+
+pub insert-spec : {M : Type 1} → statement M
+insert-spec =
+    tie.close
+    (tie.spec
+    slice-read-root
+    slice-read-free
+    contains-slot-requires
+    same-length
+    returns
+    same-length-2
+    returns-2
+    next-free-requires
+    insert-slot-requires
+    enum-known-top
+    claim-requires
+    enum-told
+    same-length-3
+    returns-3
+    same-length-4
+    returns-4)

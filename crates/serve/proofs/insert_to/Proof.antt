@@ -1,0 +1,45 @@
+-- `insert_to` is `insert` for the range of the request, and 12 where it has none. Assumes nothing.
+use mathlib.Core.Path.{refl}
+use Rattle.rules.specs.Request.{serve}
+use Rattle.serve.proofs.Ranged.{range-known, no-range}
+use borrow.Author.Needs.{needs}
+use Rattle.serve.proofs.insert_to.Statement.{statement}
+use Rattle.serve.proofs.insert_to.Tie as tie
+
+range-to-requires : tie.Need-range-to-requires
+range-to-requires c κs = search needs
+
+enum-known-key : tie.Need-enum-known-key
+enum-known-key c = search needs
+
+insert-requires : tie.Need-insert-requires
+insert-requires c κs = search needs
+
+enum-told : tie.Need-enum-told
+enum-told c = search needs
+
+same-length : tie.Need-same-length
+same-length c = search needs
+
+returns : tie.Need-returns
+unfolding serve
+returns c p h =
+    rw (range-known (c .before .before .before .before .before .before .before .range-to .ensures) (c .before .before .before .before .before .key .given .1)) (c .before .before .insert .ensures p h)
+
+returns-2 : tie.Need-returns-2
+unfolding serve
+returns-2 c p h =
+    rw (no-range (c .before .before .range-to .ensures) (c .enum-told .given .1))
+    (record { number-is = refl; words-are = h .all-words })
+
+pub insert-to-spec : {M : Type 1} → statement M
+insert-to-spec =
+    tie.close
+    (tie.spec
+    range-to-requires
+    enum-known-key
+    insert-requires
+    enum-told
+    same-length
+    returns
+    returns-2)

@@ -1,0 +1,163 @@
+// iterators.rs of the crate: the query walk, over slot numbers. The slots are lent as the words after the header, the
+// pending nodes as a stack of their slots.
+use interval::Interval;
+use node::word;
+ghost use mathlib.Core.Path.{_≡_};
+ghost use mathlib.Core.Bool.{cond};
+ghost use mathlib.Core.List.{[]};
+ghost use mathlib.Core.Option.{Option};
+ghost use Prim.Native.Nat.{suc, _+_, _≤_, _<_};
+ghost use lib.Dec.{eqb};
+ghost use lib.ListN.{length, set};
+ghost use Rattle.rules.specs.Limits.{most-slots, most-pending};
+ghost use Rattle.rules.specs.Tree.{Entry, Tree};
+ghost use Rattle.rules.specs.Query.{Pending, step, hits, with-hit};
+ghost use Rattle.rules.specs.Entries.{rows-into};
+ghost use Rattle.rules.specs.Stored.{slot-word, Within};
+ghost use Rattle.interval.specs.Interval.{range-of};
+ghost use Rattle.walk.specs.Walk.{Pends, Hit, Leaves, next, Walkable};
+ghost use Rattle.walk.specs.Inside.{Here, Looked, with-row, with-hit-row};
+
+// As many nodes as can be pending.
+pub const ROOM: usize = 16;
+
+// After a step: how many nodes are pending, and the slot that was hit, 0 for none.
+pub struct After {
+    pub pending: usize,
+    pub hit: u64,
+}
+
+// What a step finds at a node: the children that it leaves pending and the slot that it hit, each 0 for none.
+struct Found {
+    left: u64,
+    right: u64,
+    hit: u64,
+}
+
+// Looks at the node in slot k.
+fn look(slots: &[u64], k: u64, query: Interval) -> Found
+    requires { ⌜ ((e : Entry) × (l : Tree) × (r : Tree) × Here (now slots) k e l r) ⌝ }
+    ensures { λ f. ⌜ ((e : Entry) (l r : Tree) → Here (now (slots .entry)) k e l r → Looked (now (slots .entry)) (range-of query) e l r f) ⌝ }
+{
+    let start = word(slots, k, 0);
+    let end = word(slots, k, 1);
+    let max = word(slots, k, 3);
+    let links = word(slots, k, 4);
+    if max <= query.start {
+        return Found {
+            left: 0,
+            right: 0,
+            hit: 0,
+        };
+    }
+    let left = node::low(links);
+    if query.end <= start {
+        return Found {
+            left,
+            right: 0,
+            hit: 0,
+        };
+    }
+    let right = node::high(links);
+    let here = Interval { start, end };
+    if here.overlaps(query) {
+        return Found {
+            left,
+            right,
+            hit: k,
+        };
+    }
+    Found {
+        left,
+        right,
+        hit: 0,
+    }
+}
+
+// Leaves the node in slot k pending above `pending` others, if there is one: how many are pending then.
+pub fn leave(stack: &mut [u64; ROOM], pending: usize, k: u64) -> usize
+    requires { ⌜ pending < most-pending ⌝ }
+    ensures { λ n. ⌜ (now (stack .exit) ≡ set (now (stack .entry)) pending k) × (n ≡ cond (eqb k 0) pending (suc pending)) ⌝ }
+{
+    stack[pending] = k;
+    if k == 0 { pending } else { pending + 1 }
+}
+
+// One step: takes the latest pending node, and leaves its children that aren't skipped pending, left before right.
+pub fn step(slots: &[u64], stack: &mut [u64; ROOM], pending: usize, query: Interval) -> After
+    requires { ⌜ ((p : Pending) × Pends (now slots) (now stack) pending p) ⌝ }
+    ensures { λ a. ⌜ ((p : Pending) → Pends (now (slots .entry)) (now (stack .entry)) pending p → Leaves (now (slots .entry)) (now (stack .exit)) a (step (range-of query) p)) ⌝ }
+{
+    if pending == 0 {
+        return After { pending: 0, hit: 0 };
+    }
+    let below = pending - 1;
+    let found = look(slots, stack[below], query);
+    let with_left = leave(stack, below, found.left);
+    let with_right = leave(stack, with_left, found.right);
+    After {
+        pending: with_right,
+        hit: found.hit,
+    }
+}
+
+// The next hit: steps until one hits or nothing is pending.
+pub fn next(slots: &[u64], stack: &mut [u64; ROOM], pending: usize, query: Interval) -> After
+    requires { ⌜ ((p : Pending) × Pends (now slots) (now stack) pending p) ⌝ }
+    ensures { λ a. ⌜ ((p : Pending) → Pends (now (slots .entry)) (now (stack .entry)) pending p → Leaves (now (slots .entry)) (now (stack .exit)) a (next (range-of query) p)) ⌝ }
+{
+    let mut left = pending;
+    while left > 0 {
+        let after = step(slots, stack, left, query);
+        if after.hit != 0 {
+            return after;
+        }
+        left = after.pending;
+    }
+    After { pending: 0, hit: 0 }
+}
+
+// Writes start, end and value of slot k as row number n, if there is room for it.
+fn write_row(slots: &[u64], k: u64, rows: &mut [u64], n: usize)
+    requires { ⌜ Within (now slots) k × (n ≤ most-slots) ⌝ }
+    ensures { λ _. ⌜ now (rows .exit) ≡ with-row (now (rows .entry)) n (slot-word (now (slots .entry)) k 0) (slot-word (now (slots .entry)) k 1) (slot-word (now (slots .entry)) k 2) ⌝ }
+{
+    let at = 3 * n;
+    if at + 3 <= rows.len() {
+        let start = word(slots, k, 0);
+        let end = word(slots, k, 1);
+        let value = word(slots, k, 2);
+        rows[at] = start;
+        rows[at + 1] = end;
+        rows[at + 2] = value;
+    }
+}
+
+// Writes the row of the hit in slot k after `count` others, if there is one: how many have been hit then.
+fn count_hit(slots: &[u64], k: u64, rows: &mut [u64], count: usize) -> usize
+    requires { ⌜ ((o : Option Entry) × Hit (now slots) k o) × (count ≤ most-slots) ⌝ }
+    ensures { λ n. ⌜ ((o : Option Entry) → Hit (now (slots .entry)) k o → (n ≡ count + length (with-hit o [])) × (now (rows .exit) ≡ with-hit-row (now (rows .entry)) count o)) ⌝ }
+{
+    if k == 0 {
+        return count;
+    }
+    write_row(slots, k, rows, count);
+    count + 1
+}
+
+// Counts all hits in the tree from slot `root` on, 0 for none, and writes start, end and value of as many as the rows
+// have room for.
+pub fn query(slots: &[u64], root: u64, query: Interval, rows: &mut [u64]) -> usize
+    requires { ⌜ ((t : Tree) × Walkable (now slots) root t) ⌝ }
+    ensures { λ n. ⌜ ((t : Tree) → Walkable (now (slots .entry)) root t → (n ≡ length (hits (range-of query) t)) × (now (rows .exit) ≡ rows-into (hits (range-of query) t) (now (rows .entry)))) ⌝ }
+{
+    let mut stack = [0u64; ROOM];
+    let mut pending = leave(&mut stack, 0, root);
+    let mut count = 0;
+    while pending > 0 {
+        let after = next(slots, &mut stack, pending, query);
+        count = count_hit(slots, after.hit, rows, count);
+        pending = after.pending;
+    }
+    count
+}

@@ -23,7 +23,7 @@ ghost use Rattle.interval.specs.Interval.{range-of, included-of};
 ghost use Rattle.balance.specs.Sides.{side-of};
 ghost use Rattle.tree.specs.Edits.{is-some, Inserting, Inserts, Deletes, Sheds};
 ghost use Rattle.reading.specs.Reading.{end-of, request-of};
-ghost use Rattle.serve.specs.Answers.{Answers, Serves};
+ghost use Rattle.serve.specs.Answers.{number-of, Answers, Serves};
 
 // What a request is answered by a sound pool.
 pub enum Answer {
@@ -38,6 +38,19 @@ pub enum Answer {
 pub struct Served {
     pub answer: Answer,
     pub hits: usize,
+}
+
+// Document 01's number of an answer.
+pub fn number_of(answer: Answer) -> u64
+    ensures { λ r. ⌜ r ≡ number-of answer ⌝ }
+{
+    match answer {
+        Answer::Done => 0,
+        Answer::There => 1,
+        Answer::Absent => 2,
+        Answer::PastEnd => 12,
+        Answer::Full => 13,
+    }
 }
 
 // `tree::insert` into the slots, which are the words after the header.

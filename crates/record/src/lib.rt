@@ -1,0 +1,139 @@
+// Survey records to a sound pool: one record applied, and a feed of them.
+use reading::Reading;
+use reading::Request;
+ghost use mathlib.Core.Path.{_≡_};
+ghost use Prim.Native.Nat.{_≤_};
+ghost use lib.ListN.{length};
+ghost use Rattle.rules.specs.Pool.{Pool, Holds, capacity};
+ghost use Rattle.rules.specs.Record.{whole, kinds, reads};
+ghost use Rattle.rules.specs.Request.{serve};
+ghost use Rattle.rules.specs.Feed.{feed-turns};
+ghost use Rattle.rules.specs.Entries.{apply-read, fed};
+ghost use Rattle.reading.specs.Reading.{request-of};
+ghost use Rattle.record.specs.Applying.{applied-of, fed-of, Numbered, Turned};
+
+// What applying a record did: its number, the bytes taken, and the hits.
+pub struct Applied {
+    pub number: u64,
+    pub taken: usize,
+    pub hits: usize,
+}
+
+// What a feed came to: the number it ended with, the records applied and their bytes.
+pub struct Fed {
+    pub number: u64,
+    pub records: usize,
+    pub taken: usize,
+}
+
+// One turn of a feed: a record of so many bytes was applied, or one was refused.
+enum Turn {
+    Taken(usize),
+    Refused(u64),
+}
+
+// A record that was refused: nothing taken, no hits.
+pub fn refused(number: u64) -> Applied
+    ensures { λ r. ⌜ (r .number ≡ number) × (r .taken ≡ 0) × (r .hits ≡ 0) ⌝ }
+{
+    Applied {
+        number,
+        taken: 0,
+        hits: 0,
+    }
+}
+
+// Serves what a record of `taken` bytes asked. Only a query writes to the lent run of rows.
+fn apply_request(words: &mut [u64], request: Request, taken: usize, rows: &mut [u64]) -> Applied
+    requires { ⌜ ((p : Pool) × Holds (now words) p) ⌝ }
+    ensures { λ r. ⌜ ((p : Pool) → Holds (now (words .entry)) p → applied-of r (now (words .exit)) (now (rows .exit)) ≡ apply-read (whole (request-of request) taken) (capacity (length (now (words .entry)))) p (now (rows .entry))) ⌝ }
+{
+    let served = serve::serve(words, request, rows);
+    let hits = served.hits;
+    let answer = served.answer;
+    let number = serve::number_of(answer);
+    if number < 10 {
+        Applied {
+            number,
+            taken,
+            hits,
+        }
+    } else {
+        Applied {
+            number,
+            taken: 0,
+            hits,
+        }
+    }
+}
+
+// Applies the record at the front of the bytes. Only a query writes to the lent run of rows.
+pub fn apply(words: &mut [u64], bytes: &[u8], rows: &mut [u64]) -> Applied
+    requires { ⌜ ((p : Pool) × Holds (now words) p) ⌝ }
+    ensures { λ r. ⌜ ((p : Pool) → Holds (now (words .entry)) p → applied-of r (now (words .exit)) (now (rows .exit)) ≡ apply-read (reads kinds (now (bytes .entry))) (capacity (length (now (words .entry)))) p (now (rows .entry))) ⌝ }
+{
+    match reading::read(bytes) {
+        Reading::Whole(request, taken) => apply_request(words, request, taken, rows),
+        Reading::Unknown => refused(14),
+        Reading::CutShort => refused(15),
+    }
+}
+
+// Serves what a record of a feed asked. There is no run of rows: one word is no room for a row.
+fn feed_request(words: &mut [u64], request: Request) -> u64
+    requires { ⌜ ((p : Pool) × Holds (now words) p) ⌝ }
+    ensures { λ r. ⌜ ((p : Pool) → Holds (now (words .entry)) p → Numbered (now (words .entry)) (now (words .exit)) r (serve (capacity (length (now (words .entry)))) (request-of request) p)) ⌝ }
+{
+    let mut none = [0u64; 1];
+    let served = serve::serve(words, request, &mut none);
+    let answer = served.answer;
+    serve::number_of(answer)
+}
+
+// One turn of a feed: the record at the front of the bytes.
+fn feed_one(words: &mut [u64], bytes: &[u8]) -> Turn
+    requires { ⌜ ((p : Pool) × Holds (now words) p × (1 ≤ length (now bytes))) ⌝ }
+    ensures { λ r. ⌜ ((p : Pool) → Holds (now (words .entry)) p → 1 ≤ length (now (bytes .entry)) → Turned r (now (words .entry)) (now (words .exit)) (now (bytes .entry)) p) ⌝ }
+{
+    match reading::read_in_feed(bytes) {
+        Reading::Whole(request, taken) => {
+            let number = feed_request(words, request);
+            if number < 10 {
+                Turn::Taken(taken)
+            } else {
+                Turn::Refused(number)
+            }
+        }
+        Reading::Unknown => Turn::Refused(14),
+        Reading::CutShort => Turn::Refused(15),
+    }
+}
+
+// Applies records until the bytes end or one is refused.
+pub fn feed(words: &mut [u64], bytes: &[u8]) -> Fed
+    requires { ⌜ ((p : Pool) × Holds (now words) p) ⌝ }
+    ensures { λ r. ⌜ ((p : Pool) → Holds (now (words .entry)) p → fed-of r (now (words .exit)) ≡ fed (capacity (length (now (words .entry)))) (feed-turns (serve (capacity (length (now (words .entry))))) (length (now (bytes .entry))) (now (bytes .entry)) p)) ⌝ }
+{
+    let mut at = 0;
+    let mut records = 0;
+    while at < bytes.len() {
+        match feed_one(words, &bytes[at..]) {
+            Turn::Taken(taken) => {
+                at += taken;
+                records += 1;
+            }
+            Turn::Refused(number) => {
+                return Fed {
+                    number,
+                    records,
+                    taken: at,
+                };
+            }
+        }
+    }
+    Fed {
+        number: 0,
+        records,
+        taken: at,
+    }
+}

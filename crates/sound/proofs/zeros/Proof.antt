@@ -1,0 +1,35 @@
+-- `zeros` is the test of a free slot. Assumes nothing.
+use Rattle.sound.specs.Slot.{zeros-here}
+use borrow.Author.Needs.{needs}
+use Rattle.sound.proofs.zeros.Statement.{statement}
+use Rattle.sound.proofs.zeros.Tie as tie
+
+word-requires : tie.Need-word-requires
+word-requires c κs = search needs
+
+word-requires-2 : tie.Need-word-requires-2
+word-requires-2 c κs = search needs
+
+word-requires-3 : tie.Need-word-requires-3
+word-requires-3 c κs = search needs
+
+word-requires-4 : tie.Need-word-requires-4
+word-requires-4 c κs = search needs
+
+word-requires-5 : tie.Need-word-requires-5
+word-requires-5 c κs = search needs
+
+returns : tie.Need-returns
+unfolding zeros-here
+returns c = cc
+
+pub zeros-spec : {M : Type 1} → statement M
+zeros-spec =
+    tie.close
+    (tie.spec
+    word-requires
+    word-requires-2
+    word-requires-3
+    word-requires-4
+    word-requires-5
+    returns)

@@ -79,8 +79,8 @@ pub fn apply(words: &mut [u64], bytes: &[u8], rows: &mut [u64]) -> Applied
     }
 }
 
-// Serves what a record of a feed asked. There is no run of rows: one word is no room for a row.
-fn feed_request(words: &mut [u64], request: Request) -> u64
+// Serves a request without a run of rows, and answers its number: one word is no room for a row.
+pub fn edit(words: &mut [u64], request: Request) -> u64
     requires { ⌜ ((p : Pool) × Holds (now words) p) ⌝ }
     ensures { λ r. ⌜ ((p : Pool) → Holds (now (words .entry)) p → Numbered (now (words .entry)) (now (words .exit)) r (serve (capacity (length (now (words .entry)))) (request-of request) p)) ⌝ }
 {
@@ -97,7 +97,7 @@ fn feed_one(words: &mut [u64], bytes: &[u8]) -> Turn
 {
     match reading::read_in_feed(bytes) {
         Reading::Whole(request, taken) => {
-            let number = feed_request(words, request);
+            let number = edit(words, request);
             if number < 10 {
                 Turn::Taken(taken)
             } else {

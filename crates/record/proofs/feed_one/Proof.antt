@@ -14,8 +14,8 @@ read-in-feed-requires c κs = search needs
 enum-known-request : tie.Need-enum-known-request
 enum-known-request c = search needs
 
-feed-request-requires : tie.Need-feed-request-requires
-feed-request-requires c κs = search needs
+edit-requires : tie.Need-edit-requires
+edit-requires c κs = search needs
 
 enum-told : tie.Need-enum-told
 enum-told c = search needs
@@ -31,7 +31,7 @@ returns c p h some =
     let d = c .before .before .before .before .before .before .before .before in
     let start = d .before .before .before in
     let read = sym (d .read-in-feed .ensures) ∙ ap reading-of (c .before .before .before .before .before .before .request .given .1) in
-    turned-on (start .args .bytes .now) (request-of (c .before .before .before .before .before .before .request .given .0 .0)) h some read (c .before .before .before .feed-request .ensures p h) (c .if1 .taken)
+    turned-on (start .args .bytes .now) (request-of (c .before .before .before .before .before .before .request .given .0 .0)) h some read (c .before .before .before .edit .ensures p h) (c .if1 .taken)
 
 same-length-2 : tie.Need-same-length-2
 same-length-2 c = search needs
@@ -41,7 +41,7 @@ returns-2 c p h some =
     let d = c .before .before .before .before .before .before .before .before in
     let start = d .before .before .before in
     let read = sym (d .read-in-feed .ensures) ∙ ap reading-of (c .before .before .before .before .before .before .request .given .1) in
-    turned-off (start .args .bytes .now) (request-of (c .before .before .before .before .before .before .request .given .0 .0)) h some read (c .before .before .before .feed-request .ensures p h) (c .if1 .left)
+    turned-off (start .args .bytes .now) (request-of (c .before .before .before .before .before .before .request .given .0 .0)) h some read (c .before .before .before .edit .ensures p h) (c .if1 .left)
 
 returns-3 : tie.Need-returns-3
 returns-3 c p h some =
@@ -61,7 +61,7 @@ feed-one-spec =
     (tie.spec
     read-in-feed-requires
     enum-known-request
-    feed-request-requires
+    edit-requires
     enum-told
     enum-told-2
     same-length

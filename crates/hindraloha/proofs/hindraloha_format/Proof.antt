@@ -1,0 +1,28 @@
+-- The entry formats a pool of a right length, and refuses any other with 10. Assumes nothing.
+use mathlib.Core.Path.{refl, sym, _∙_}
+use Rattle.rules.specs.Entries.{format}
+use borrow.Author.Needs.{needs}
+use Rattle.hindraloha.proofs.hindraloha_format.Statement.{statement}
+use Rattle.hindraloha.proofs.hindraloha_format.Tie as tie
+
+is-right-length-requires : tie.Need-is-right-length-requires
+is-right-length-requires c κs = search needs
+
+format-requires : tie.Need-format-requires
+format-requires c κs = sym (c .before .before .is-right-length .ensures) ∙ c .before .if1 .taken
+
+same-length : tie.Need-same-length
+same-length c = search needs
+
+returns : tie.Need-returns
+unfolding format
+returns c =
+    rw (sym (c .before .before .before .before .before .is-right-length .ensures) ∙ c .before .before .before .before .if1 .taken, c .before .before .format .ensures) refl
+
+returns-2 : tie.Need-returns-2
+unfolding format
+returns-2 c = rw (sym (c .before .is-right-length .ensures) ∙ c .if1 .left) refl
+
+pub hindraloha-format-spec : {M : Type 1} → statement M
+hindraloha-format-spec =
+    tie.close (tie.spec is-right-length-requires format-requires same-length returns returns-2)

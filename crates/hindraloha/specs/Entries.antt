@@ -1,0 +1,41 @@
+-- The C entries' answers, with the words that they leave, as document 01's entries have them.
+use Prim.Native.Nat.{ℕ}
+use mathlib.Core.Bool.{cond}
+use mathlib.Core.List.{List}
+use lib.Dec.{eqb}
+use lib.IntN.{ℤ}
+use Rattle.rules.specs.Range.{End, excluded, included}
+use Rattle.rules.specs.Entries.{Edited, Told, Queried, Applied, Fed}
+use Rattle.hindraloha.specs.declared.Answer.{Answer}
+use Rattle.hindraloha.specs.declared.Count.{Count}
+use Rattle.hindraloha.specs.declared.Height.{Height}
+use Rattle.hindraloha.specs.declared.Hits.{Hits}
+use Rattle.hindraloha.specs.declared.Taken.{Taken}
+use Rattle.hindraloha.specs.declared.Records.{Records}
+
+-- "Insert, delete and query take the end either excluded or included": 0 is excluded, any other number included
+abbrev pub end-of-flag : ℕ → End
+end-of-flag flag = cond (eqb flag 0) excluded included
+
+-- a number, with all words of the pool
+abbrev pub edited : Answer → List ℕ → Edited
+edited r after = record { number = r .number; words = after }
+
+-- a number, with what is told
+abbrev pub told : Count → Told ℕ
+told r = record { number = r .number; told = r .count }
+
+abbrev pub told-height : Height → Told ℤ
+told-height r = record { number = r .number; told = r .height }
+
+-- a number and the hits, with all words of the lent run
+abbrev pub queried : Hits → List ℕ → Queried
+queried r run = record { number = r .number; count = r .hits; run = run }
+
+-- a number, the bytes taken and the hits, with all words of the pool and of the lent run
+abbrev pub applied : Taken → List ℕ → List ℕ → Applied
+applied r after run = record { number = r .number; taken = r .taken; count = r .hits; words = after; run = run }
+
+-- a number, the records applied and their bytes, with all words of the pool
+abbrev pub fed : Records → List ℕ → Fed
+fed r after = record { number = r .number; records = r .records; taken = r .taken; words = after }

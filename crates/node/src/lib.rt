@@ -1,10 +1,13 @@
 // node.rs of the crate: a node's words in its slot. The slots are lent as the words after the header.
+use interval::Interval;
 ghost use mathlib.Core.Path.{_≡_};
 ghost use Prim.Native.Nat.{_+_, _*_, _%_, _/_, _≤_, _<_, max};
 ghost use lib.ListN.{length};
 ghost use Rattle.rules.specs.Tree.{Entry, Tree, node, leaf};
+ghost use Rattle.rules.specs.Range.{range};
 ghost use Rattle.rules.specs.Limits.{half};
 ghost use Rattle.rules.specs.Stored.{slot-word, Within, Left};
+ghost use Rattle.interval.specs.Interval.{range-of};
 ghost use Rattle.node.specs.Node.{levels-at, size-at, max-at, factor, with-word, with-links, with-entry, entry, Hung, Slot};
 
 // Word i of slot k.
@@ -13,6 +16,16 @@ pub fn word(slots: &[u64], k: u64, i: usize) -> u64
     ensures { λ r. ⌜ r ≡ slot-word (now (slots .entry)) k i ⌝ }
 {
     slots[(6 * (k - 1)) as usize + i]
+}
+
+// The range in slot k.
+pub fn interval_at(slots: &[u64], k: u64) -> Interval
+    requires { ⌜ Within (now slots) k ⌝ }
+    ensures { λ r. ⌜ range-of r ≡ range (slot-word (now (slots .entry)) k 0) (slot-word (now (slots .entry)) k 1) ⌝ }
+{
+    let start = word(slots, k, 0);
+    let end = word(slots, k, 1);
+    Interval { start, end }
 }
 
 // Makes `a` word i of slot k.
@@ -94,21 +107,14 @@ pub fn balance_factor(left: u64, right: u64) -> Factor
     Factor::Between
 }
 
-// The larger of two numbers.
-fn larger(a: u64, b: u64) -> u64
-    ensures { λ r. ⌜ r ≡ max a b ⌝ }
-{
-    if a < b { b } else { a }
-}
-
 // The max of slot k, from its end and its children's max.
 fn update_max(slots: &[u64], k: u64, l: u64, r: u64) -> u64
     requires { ⌜ Within (now slots) k × (6 * l ≤ length (now slots)) × (6 * r ≤ length (now slots)) ⌝ }
     ensures { λ m. ⌜ m ≡ max (slot-word (now (slots .entry)) k 1) (max (max-at (now (slots .entry)) l) (max-at (now (slots .entry)) r)) ⌝ }
 {
-    larger(
+    interval::larger(
         word(slots, k, 1),
-        larger(max_end(slots, l), max_end(slots, r)),
+        interval::larger(max_end(slots, l), max_end(slots, r)),
     )
 }
 
@@ -117,7 +123,7 @@ fn update_shape(slots: &[u64], l: u64, r: u64) -> u64
     requires { ⌜ (6 * l ≤ length (now slots)) × (6 * r ≤ length (now slots)) × (levels-at (now slots) l < half) × (levels-at (now slots) r < half) × (size-at (now slots) l + size-at (now slots) r + 1 < half) ⌝ }
     ensures { λ w. ⌜ w ≡ max (levels-at (now (slots .entry)) l) (levels-at (now (slots .entry)) r) + half * (size-at (now (slots .entry)) l + size-at (now (slots .entry)) r + 1) ⌝ }
 {
-    let height = larger(height(slots, l), height(slots, r));
+    let height = interval::larger(height(slots, l), height(slots, r));
     let size = size(slots, l) + size(slots, r) + 1;
     pack(height, size)
 }

@@ -31,14 +31,6 @@ pub fn root(words: &[u64]) -> u64
     words[0]
 }
 
-// The first free slot, 0 for none.
-pub fn first_free(words: &[u64]) -> u64
-    requires { ⌜ header-words ≤ length (now words) ⌝ }
-    ensures { λ r. ⌜ r ≡ getD (now (words .entry)) 1 0 ⌝ }
-{
-    words[1]
-}
-
 // The live count.
 pub fn live(words: &[u64]) -> u64
     requires { ⌜ header-words ≤ length (now words) ⌝ }

@@ -1,7 +1,6 @@
 -- The laws of the check: strict order around an entry, a node in its slot, the marks, and from them what each step
 -- finds.
 pub mod Decisions
-pub mod Lengths
 pub mod Sizes
 pub mod Bounds
 pub mod Split

@@ -31,17 +31,6 @@ pub enum Soundness {
     Unsound,
 }
 
-// Whether n words are as many as a pool has: 4 + 6c, c from 1 to 4,095.
-fn right_length(n: usize) -> bool
-    ensures { λ r. ⌜ r ≡ right-length n ⌝ }
-{
-    if n < 10 {
-        return false;
-    }
-    let slots = (n - 4) / 6;
-    (n == 4 + 6 * slots) & (slots <= MOST_SLOTS)
-}
-
 // The left child of slot k.
 fn left(slots: &[u64], k: u64) -> u64
     requires { ⌜ Within (now slots) k ⌝ }
@@ -58,14 +47,6 @@ fn right(slots: &[u64], k: u64) -> u64
     node::high(node::word(slots, k, 4))
 }
 
-// The range in slot k.
-fn interval_at(slots: &[u64], k: u64) -> Interval
-    requires { ⌜ Within (now slots) k ⌝ }
-    ensures { λ r. ⌜ range-of r ≡ range (slot-word (now (slots .entry)) k 0) (slot-word (now (slots .entry)) k 1) ⌝ }
-{
-    Interval::new(node::word(slots, k, 0), node::word(slots, k, 1))
-}
-
 // Whether the range in slot a comes before the one in slot b; where either is none, there is nothing to compare.
 fn in_order(slots: &[u64], a: u64, b: u64) -> bool
     requires { ⌜ (6 * a ≤ length (now slots)) × (6 * b ≤ length (now slots)) ⌝ }
@@ -77,18 +58,11 @@ fn in_order(slots: &[u64], a: u64, b: u64) -> bool
     if b == 0 {
         return true;
     }
-    match interval_at(slots, a).cmp(interval_at(slots, b)) {
+    match node::interval_at(slots, a).cmp(node::interval_at(slots, b)) {
         Ordering::Less => true,
         Ordering::Equal => false,
         Ordering::Greater => false,
     }
-}
-
-// The larger of two numbers.
-fn larger(a: u64, b: u64) -> u64
-    ensures { λ r. ⌜ r ≡ max a b ⌝ }
-{
-    if a < b { b } else { a }
 }
 
 // Whether the height in slot k is exact over its children l and r, whose heights differ by one at most.
@@ -99,7 +73,7 @@ fn exact_height(slots: &[u64], k: u64, l: u64, r: u64) -> bool
     let height = node::low(node::word(slots, k, 5));
     let a = node::height(slots, l);
     let b = node::height(slots, r);
-    (a <= b + 1) & (b <= a + 1) & (height == larger(a, b))
+    (a <= b + 1) & (b <= a + 1) & (height == interval::larger(a, b))
 }
 
 // Whether the size in slot k is exact over its children l and r.
@@ -116,8 +90,8 @@ fn exact_max(slots: &[u64], k: u64, l: u64, r: u64) -> bool
     requires { ⌜ Within (now slots) k × (6 * l ≤ length (now slots)) × (6 * r ≤ length (now slots)) ⌝ }
     ensures { λ b. ⌜ b ≡ exact-max (now (slots .entry)) k l r ⌝ }
 {
-    let below = larger(node::max_end(slots, l), node::max_end(slots, r));
-    node::word(slots, k, 3) == larger(node::word(slots, k, 1), below)
+    let below = interval::larger(node::max_end(slots, l), node::max_end(slots, r));
+    node::word(slots, k, 3) == interval::larger(node::word(slots, k, 1), below)
 }
 
 // Whether slot k is right over its children: both are slots or none, and height, size and max are exact.
@@ -246,7 +220,7 @@ fn is_sound(words: &[u64]) -> bool
 pub fn check(words: &[u64]) -> Soundness
     ensures { λ r. ⌜ number-of r ≡ check (now (words .entry)) ⌝ }
 {
-    if !right_length(words.len()) {
+    if !pool::is_right_length(words.len()) {
         return Soundness::WrongLength;
     }
     if is_sound(words) {

@@ -31,16 +31,6 @@ pub enum Deleted {
     Absent,
 }
 
-// The range in slot k.
-fn interval_at(slots: &[u64], k: u64) -> Interval
-    requires { ⌜ Within (now slots) k ⌝ }
-    ensures { λ r. ⌜ range-of r ≡ range (slot-word (now (slots .entry)) k 0) (slot-word (now (slots .entry)) k 1) ⌝ }
-{
-    let start = node::word(slots, k, 0);
-    let end = node::word(slots, k, 1);
-    Interval { start, end }
-}
-
 // Whether the tree rooted in slot k has the range.
 pub fn contains(slots: &[u64], k: u64, key: Interval) -> bool
     requires { ⌜ ((t : Tree) × Rooted (now slots) k t) ⌝ }
@@ -49,7 +39,7 @@ pub fn contains(slots: &[u64], k: u64, key: Interval) -> bool
     if k == 0 {
         return false;
     }
-    match key.cmp(interval_at(slots, k)) {
+    match key.cmp(node::interval_at(slots, k)) {
         Ordering::Less => contains(slots, balance::child(slots, Side::Left, k), key),
         Ordering::Greater => contains(slots, balance::child(slots, Side::Right, k), key),
         Ordering::Equal => true,
@@ -67,7 +57,7 @@ pub fn insert(slots: &mut [u64], k: u64, key: Interval, value: u64, new: u64) ->
     }
     let left = balance::child(slots, Side::Left, k);
     let right = balance::child(slots, Side::Right, k);
-    match key.cmp(interval_at(slots, k)) {
+    match key.cmp(node::interval_at(slots, k)) {
         Ordering::Less => match insert(slots, left, key, value, new) {
             Inserted::At(below) => Inserted::At(balance::balance(slots, k, below, right)),
             Inserted::There => Inserted::There,
@@ -123,7 +113,7 @@ pub fn delete(slots: &mut [u64], k: u64, key: Interval) -> Deleted
     }
     let left = balance::child(slots, Side::Left, k);
     let right = balance::child(slots, Side::Right, k);
-    match key.cmp(interval_at(slots, k)) {
+    match key.cmp(node::interval_at(slots, k)) {
         Ordering::Less => match delete(slots, left, key) {
             Deleted::Gone(below, slot) => Deleted::Gone(
                 balance::balance(slots, k, below, right),

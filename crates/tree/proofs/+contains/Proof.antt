@@ -15,7 +15,7 @@ use Rattle.tree.proofs.contains.Kinds as contains-kinds
 use Rattle.tree.proofs.+contains.Lts-contains as contains-lts
 use Rattle.balance.proofs.child.Reads as child-reads
 use Rattle.interval.proofs.Interval.cmp.Reads as cmp-reads
-use Rattle.tree.proofs.interval_at.Reads as interval-at-reads
+use Rattle.node.proofs.interval_at.Reads as interval-at-reads
 use Rattle.tree.proofs.+contains.{statement}
 use Rattle.tree.proofs.+contains.Tie.{close}
 

@@ -1,0 +1,2 @@
+-- Demand 3 of the entries.
+pub mod Shown

@@ -2,9 +2,8 @@
 use Prim.Native.Nat.{ℕ, suc, _*_, _≤_, _<_}
 use mathlib.Core.List.{List}
 use mathlib.Core.Logic.{⊎-elim}
-use mathlib.Core.Path.{_≡_, refl, sym, ap, _∙_}
+use mathlib.Core.Path.{_≡_}
 use native.Mathlib.Omega.{arith}
-use lib.Dec.{ltb}
 use lib.ListN.{length}
 use borrow.Author.Tests.{lt-ltb, le-ltb}
 use Rattle.rules.specs.Limits.{slot-words, half}
@@ -15,56 +14,28 @@ use Rattle.rules.proofs.Tests.{lt-cases}
 use Rattle.node.specs.Node.{levels-at, factor, Hung}
 use Rattle.node.specs.declared.Factor.{Factor}
 use Rattle.node.specs.declared.Factor.the-variants.{BelowMinusOne, Between, AboveOne}
-use Rattle.node.proofs.Trees.{AtRoot, at-root}
-use Rattle.balance.proofs.Sides.{hung-turned}
+use Rattle.node.proofs.Trees.{at-root}
 
--- two answers of `factor` that are not the same one
-apart : {f : Factor} {x : Factor} → f ≡ x → f ≡ BelowMinusOne → x ≡ Between → ⊥
-apart p q r = let z : _≡_ {A = ℕ} 0 1 = cc in omega arith
+-- how two heights stand, by the factor that says so
+data Leans (l r : ℕ) : Factor → Type 0 where
+  to-right : suc l < r → Leans l r BelowMinusOne
+  to-left : suc r < l → Leans l r AboveOne
+  even : l ≤ suc r → r ≤ suc l → Leans l r Between
 
-apart-above : {f : Factor} {x : Factor} → f ≡ x → f ≡ BelowMinusOne → x ≡ AboveOne → ⊥
-apart-above p q r = let z : _≡_ {A = ℕ} 0 1 = cc in omega arith
-
-between-above : {f : Factor} {x : Factor} → f ≡ x → f ≡ Between → x ≡ AboveOne → ⊥
-between-above p q r = let z : _≡_ {A = ℕ} 0 1 = cc in omega arith
-
--- how two heights stand, with the factor that says so
-data Leans (l r : ℕ) : Type 0 where
-  to-right : suc l < r → factor l r ≡ BelowMinusOne → Leans l r
-  to-left : suc r < l → factor l r ≡ AboveOne → Leans l r
-  even : l ≤ suc r → r ≤ suc l → factor l r ≡ Between → Leans l r
-
-leans : (l r : ℕ) → Leans l r
+leans : (l r : ℕ) → Leans l r (factor l r)
 leans l r =
-    ⊎-elim (λ p. to-right (p .0) (rw (p .1) refl))
-    (λ p.
-    ⊎-elim (λ q. to-left (q .0) (rw (p .1, q .1) refl)) (λ q. even (q .0) (p .0) (rw (p .1, q .1) refl))
-    (lt-cases (suc r) l))
+    ⊎-elim (λ p. rw (p .1) (to-right (p .0)))
+    (λ p. ⊎-elim (λ q. rw (p .1, q .1) (to-left (q .0))) (λ q. rw (p .1, q .1) (even (q .0) (p .0))) (lt-cases (suc r) l))
     (lt-cases (suc l) r)
 
-pub leans-right : (l r : ℕ) → factor l r ≡ BelowMinusOne → suc l < r
-leans-right l r h = go (leans l r)
-  where
-    go : Leans l r → suc l < r
-    go (to-right p e) = p
-    go (to-left p e) = absurd (apart-above refl h e)
-    go (even p q e) = absurd (apart refl h e)
+leans-right : {l r : ℕ} → Leans l r BelowMinusOne → suc l < r
+leans-right (to-right p) = p
 
-pub leans-left : (l r : ℕ) → factor l r ≡ AboveOne → suc r < l
-leans-left l r h = go (leans l r)
-  where
-    go : Leans l r → suc r < l
-    go (to-right p e) = absurd (apart-above refl e h)
-    go (to-left p e) = p
-    go (even p q e) = absurd (between-above refl e h)
+leans-left : {l r : ℕ} → Leans l r AboveOne → suc r < l
+leans-left (to-left p) = p
 
-pub leans-neither : (l r : ℕ) → factor l r ≡ Between → (l ≤ suc r) × (r ≤ suc l)
-leans-neither l r h = go (leans l r)
-  where
-    go : Leans l r → (l ≤ suc r) × (r ≤ suc l)
-    go (to-right p e) = absurd (apart refl e h)
-    go (to-left p e) = absurd (between-above refl h e)
-    go (even p q e) = (p, q)
+leans-neither : {l r : ℕ} → Leans l r Between → (l ≤ suc r) × (r ≤ suc l)
+leans-neither (even p q) = (p, q)
 
 -- the children's slots and heights, as the calls of `balance` ask them
 pub record Ready (ss : List ℕ) (l r : ℕ) : Type 0 where
@@ -80,12 +51,14 @@ ready h =
     record { left-in = a .inside; right-in = b .inside; left-low = omega arith; right-low = omega arith }
 
 module _ {ss : List ℕ} {k l r : ℕ} {e : Entry} {t u : Tree} (h : Hung ss k l r e t u) where
-  heights : (levels-at ss l ≡ levels t) × (levels-at ss r ≡ levels u)
-  heights = (at-root (h .left) .levels-is, at-root (h .right) .levels-is)
+  -- how the stored heights stand, of the trees
+  lean : {f : Factor} → factor (levels-at ss l) (levels-at ss r) ≡ f → Leans (levels t) (levels u) f
+  lean f =
+      rw (f, at-root (h .left) .levels-is, at-root (h .right) .levels-is) at (leans (levels-at ss l) (levels-at ss r))
 
   -- below -1: the right child comes up
   pub right-too-high : factor (levels-at ss l) (levels-at ss r) ≡ BelowMinusOne → suc (levels t) < levels u
-  right-too-high f = let lean = leans-right (levels-at ss l) (levels-at ss r) f in let same = heights in omega arith
+  right-too-high f = leans-right (lean f)
 
   pub balanced-right : {after : List ℕ} {top : ℕ} → factor (levels-at ss l) (levels-at ss r) ≡ BelowMinusOne
       → Left ss after top (mend right e u t)
@@ -95,7 +68,7 @@ module _ {ss : List ℕ} {k l r : ℕ} {e : Entry} {t u : Tree} (h : Hung ss k l
 
   -- above 1: the left one
   pub left-too-high : factor (levels-at ss l) (levels-at ss r) ≡ AboveOne → suc (levels u) < levels t
-  left-too-high f = let lean = leans-left (levels-at ss l) (levels-at ss r) f in let same = heights in omega arith
+  left-too-high f = leans-left (lean f)
 
   pub balanced-left : {after : List ℕ} {top : ℕ} → factor (levels-at ss l) (levels-at ss r) ≡ AboveOne
       → Left ss after top (mend left e t u)
@@ -111,6 +84,5 @@ module _ {ss : List ℕ} {k l r : ℕ} {e : Entry} {t u : Tree} (h : Hung ss k l
       → Left ss after top (balance e t u)
   unfolding balance
   balanced-yet f done =
-      let lean = leans-neither (levels-at ss l) (levels-at ss r) f in
-      let same = heights in
+      let close = leans-neither (lean f) in
       rw (le-ltb (suc (levels t)) (levels u) (omega arith), le-ltb (suc (levels u)) (levels t) (omega arith)) done

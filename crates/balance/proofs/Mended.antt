@@ -1,23 +1,21 @@
--- The double case and `balance`: what their calls are given, and what they leave. Assumes nothing.
-use Prim.Native.Nat.{ℕ, suc, _+_, _*_, _≤_, _<_, max}
-use mathlib.Core.Bool.{cond}
+-- The double case: what the calls of `straighten` and `mend` are given, and what they leave. Assumes nothing.
+use Prim.Native.Nat.{ℕ, _+_, _*_, _≤_, _<_}
 use mathlib.Core.List.{List, [], _∷_, map}
 use mathlib.Core.Logic.{⊎-elim}
 use mathlib.Core.Path.{_≡_, ap, _∙_}
 use native.Mathlib.Omega.{arith}
-use lib.Dec.{ltb}
 use lib.ListN.{length}
 use borrow.Author.Tests.{lt-ltb, le-ltb}
-use Rattle.rules.specs.Limits.{slot-words, half}
-use Rattle.rules.specs.Tree.{Entry, Tree, leaf, node, levels, entries}
-use Rattle.rules.specs.Balance.{Side, left, right, near, far, other, join, lift, straight, mend, balance}
+use Rattle.rules.specs.Limits.{slot-words}
+use Rattle.rules.specs.Tree.{Entry, Tree, leaf, node, levels}
+use Rattle.rules.specs.Balance.{Side, near, far, other, join, lift, straight, mend}
 use Rattle.rules.specs.Pool.{times, slots}
 use Rattle.rules.specs.Stored.{Within, Rooted, Left}
 use Rattle.rules.proofs.Tests.{lt-cases}
 use Rattle.rules.proofs.Times.{times-one}
 use Rattle.rules.proofs.Inorder.{entries-lift, entries-straight}
 use Rattle.node.specs.Node.{levels-at, Hung}
-use Rattle.node.proofs.Trees.{AtNode, at-node, AtRoot, at-root, kept-refl, bears-kept, rooted-kept, left-then}
+use Rattle.node.proofs.Trees.{AtNode, at-node, at-root, kept-refl, bears-kept, rooted-kept, left-then}
 use Rattle.balance.proofs.Sides.{times-join, times-sides, rooted-near, rooted-far}
 use Rattle.balance.proofs.Rotated.{near-child, far-child}
 
@@ -58,10 +56,10 @@ root-within (node f l r) p tall = at-node p .at
 
 -- Straightening the child a on the side: its children on the side and on the other are `outer` and `inner`.
 module _ (s : Side) {ss : List ℕ} {a inner outer : ℕ} (inner-is : inner ≡ far-child s ss a) (outer-is : outer ≡ near-child s ss a) where
-  pub inner-tree : {f : Entry} {l r : Tree} → AtNode ss a f l r → Rooted ss inner (far s l r)
+  inner-tree : {f : Entry} {l r : Tree} → AtNode ss a f l r → Rooted ss inner (far s l r)
   inner-tree p = rw inner-is (rooted-far s (p .left) (p .right))
 
-  pub outer-tree : {f : Entry} {l r : Tree} → AtNode ss a f l r → Rooted ss outer (near s l r)
+  outer-tree : {f : Entry} {l r : Tree} → AtNode ss a f l r → Rooted ss outer (near s l r)
   outer-tree p = rw outer-is (rooted-near s (p .left) (p .right))
 
   pub outer-inside : (t : Tree) → Rooted ss a t → 1 ≤ levels t → slot-words * outer ≤ length ss

@@ -1,13 +1,13 @@
 -- A rotation stores the lifted tree: what its two joins are given, and what they leave. Assumes nothing.
 use Prim.Native.Nat.{ℕ, _+_, _%_, _/_, _≤_}
 use mathlib.Core.List.{List, [], _∷_}
-use mathlib.Core.Path.{_≡_, refl, sym, ap, _∙_}
+use mathlib.Core.Path.{_≡_}
 use native.Mathlib.Omega.{arith}
 use Rattle.rules.specs.Limits.{half}
 use Rattle.rules.specs.Tree.{Entry, Tree, leaf, node, levels}
-use Rattle.rules.specs.Balance.{Side, left, right, near, far, other, join, lift}
+use Rattle.rules.specs.Balance.{Side, near, far, join, lift}
 use Rattle.rules.specs.Pool.{times, slots}
-use Rattle.rules.specs.Stored.{slot-word, Within, Rooted, Left}
+use Rattle.rules.specs.Stored.{slot-word, Within, Left}
 use Rattle.rules.proofs.Times.{times-node, times-one}
 use Rattle.node.proofs.Trees.{AtNode, at-node, bears-kept, rooted-kept, left-then}
 use Rattle.node.specs.Node.{Hung}
@@ -25,7 +25,7 @@ module _ (s : Side) {ss : List ℕ} {k a b : ℕ} {e f : Entry} {l r u : Tree} (
   risen = at-node (h .left)
 
   -- the slot that comes up is one of these words
-  pub rising-within : Within ss a
+  rising-within : Within ss a
   rising-within = risen .at
 
   -- no slot is counted twice among the parts
@@ -33,7 +33,7 @@ module _ (s : Side) {ss : List ℕ} {k a b : ℕ} {e f : Entry} {l r u : Tree} (
   parts-once x = omega (arith, h .once x, times-node x f l r, times-sides x s l r)
 
   -- what the first join is given: the inner subtree goes over to the one that goes down
-  pub sinking : {inner : ℕ} → inner ≡ far-child s ss a → Hung ss k inner b e (far s l r) u
+  sinking : {inner : ℕ} → inner ≡ far-child s ss a → Hung ss k inner b e (far s l r) u
   sinking is =
       rw is
       (record {
@@ -46,7 +46,7 @@ module _ (s : Side) {ss : List ℕ} {k a b : ℕ} {e f : Entry} {l r u : Tree} (
 
   module _ {between : List ℕ} (sunk : Left ss between k (join s e (far s l r) u)) where
     -- what the second join is given
-    pub rising : {outer : ℕ} → outer ≡ near-child s ss a → Hung between a outer k f (near s l r) (join s e (far s l r) u)
+    rising : {outer : ℕ} → outer ≡ near-child s ss a → Hung between a outer k f (near s l r) (join s e (far s l r) u)
     rising is =
         rw is
         (record {
@@ -64,7 +64,7 @@ module _ (s : Side) {ss : List ℕ} {k a b : ℕ} {e f : Entry} {l r u : Tree} (
         })
 
     -- and what both leave
-    pub rotated : {after : List ℕ} → Left between after a (join s f (near s l r) (join s e (far s l r) u))
+    rotated : {after : List ℕ} → Left between after a (join s f (near s l r) (join s e (far s l r) u))
         → Left ss after a (lift s e (node f l r) u)
     rotated up =
         left-then sunk up

@@ -39,7 +39,7 @@ rooted-near left p q = p
 rooted-near right p q = q
 
 -- the near one of the other side is the far one
-pub near-other : {A : Type 0} (s : Side) (a b : A) → near (other s) a b ≡ far s a b
+near-other : {A : Type 0} (s : Side) (a b : A) → near (other s) a b ≡ far s a b
 near-other left a b = refl
 near-other right a b = refl
 

@@ -45,7 +45,7 @@ pub fn child(slots: &[u64], side: Side, k: u64) -> u64
     on_side(side, node::low(links), node::high(links))
 }
 
-// Makes a the child of slot k on the side and b its child on the other side.
+// Makes `a` the child of slot k on the side and `b` its child on the other side.
 fn join(slots: &mut [u64], side: Side, k: u64, a: u64, b: u64)
     requires { ⌜ ((e : Entry) × (t : Tree) × (u : Tree) × Hung (now slots) k a b e t u) ⌝ }
     ensures { λ _. ⌜ ((e : Entry) (t u : Tree) → Hung (now (slots .entry)) k a b e t u → stored.Left (now (slots .entry)) (now (slots .exit)) k (join (side-of side) e t u)) ⌝ }
@@ -56,8 +56,8 @@ fn join(slots: &mut [u64], side: Side, k: u64, a: u64, b: u64)
     }
 }
 
-// The rotation by which the child a of slot k on the side comes up, and k goes down on the other side, where b is its
-// child: `rotate_right` of the crate for the left side, `rotate_left` for the right. Answers the slot that came up.
+// The rotation by which `a`, the child of slot k on the side, comes up, and k goes down on the other side, where `b` is
+// its child: `rotate_right` of the crate for the left side, `rotate_left` for the right. Answers the slot that came up.
 fn rotate(slots: &mut [u64], side: Side, k: u64, a: u64, b: u64) -> u64
     requires { ⌜ ((e : Entry) × (t : Tree) × (u : Tree) × Hung (now slots) k a b e t u × (1 ≤ levels t)) ⌝ }
     ensures { λ top. ⌜ ((e : Entry) (t u : Tree) → Hung (now (slots .entry)) k a b e t u → 1 ≤ levels t → stored.Left (now (slots .entry)) (now (slots .exit)) top (lift (side-of side) e t u)) ⌝ }
@@ -69,7 +69,7 @@ fn rotate(slots: &mut [u64], side: Side, k: u64, a: u64, b: u64) -> u64
     a
 }
 
-// Where the inner subtree of a, the child on the side, is the higher one, it comes up first. Answers the slot that is
+// Where the inner subtree of `a`, the child on the side, is the higher one, it comes up first. Answers the slot that is
 // then on the side.
 fn straighten(slots: &mut [u64], side: Side, a: u64) -> u64
     requires { ⌜ ((t : Tree) × Rooted (now slots) a t × (1 ≤ levels t)) ⌝ }
@@ -84,7 +84,7 @@ fn straighten(slots: &mut [u64], side: Side, a: u64) -> u64
     a
 }
 
-// Mends slot k, whose child a on the side is too high for its child b on the other. Answers the slot that came up.
+// Mends slot k, whose child `a` on the side is too high for its child `b` on the other. Answers the slot that came up.
 fn mend(slots: &mut [u64], side: Side, k: u64, a: u64, b: u64) -> u64
     requires { ⌜ ((e : Entry) × (t : Tree) × (u : Tree) × Hung (now slots) k a b e t u × (1 ≤ levels t)) ⌝ }
     ensures { λ top. ⌜ ((e : Entry) (t u : Tree) → Hung (now (slots .entry)) k a b e t u → 1 ≤ levels t → stored.Left (now (slots .entry)) (now (slots .exit)) top (mend (side-of side) e t u)) ⌝ }
@@ -108,8 +108,8 @@ pub fn balance(slots: &mut [u64], k: u64, l: u64, r: u64) -> u64
     }
 }
 
-// Makes a the child of slot k on the side and b its child on the other side, and balances it. Answers the slot that is
-// then on top.
+// Makes `a` the child of slot k on the side and `b` its child on the other side, and balances it. Answers the slot that
+// is then on top.
 pub fn rebalance(slots: &mut [u64], side: Side, k: u64, a: u64, b: u64) -> u64
     requires { ⌜ ((e : Entry) × (t : Tree) × (u : Tree) × Hung (now slots) k a b e t u) ⌝ }
     ensures { λ top. ⌜ ((e : Entry) (t u : Tree) → Hung (now (slots .entry)) k a b e t u → stored.Left (now (slots .entry)) (now (slots .exit)) top (balanced-join (side-of side) e t u)) ⌝ }

@@ -23,7 +23,7 @@ pub enum Shared {
     None,
 }
 
-// A range from an included end, which has none where that end is the largest number.
+// The range up to an end that is included, or none: past the largest number there is no end.
 pub enum Included {
     Range(Interval),
     PastEnd,

@@ -1,5 +1,4 @@
 // The soundness check of document 01: whether lent words hold a pool, and so whether an entry may go to work on them.
-use interval::Interval;
 use interval::Ordering;
 ghost use mathlib.Core.Path.{_≡_};
 ghost use mathlib.Core.Bool.{true};
@@ -8,11 +7,9 @@ ghost use Prim.Native.Nat.{_+_, _*_, _/_, _%_, _^_, _≤_, _<_, max};
 ghost use lib.Dec.{eqb};
 ghost use lib.ListN.{length, getD, set};
 ghost use Rattle.rules.specs.Limits.{half};
-ghost use Rattle.rules.specs.Range.{range};
 ghost use Rattle.rules.specs.Pool.{right-length, ascending};
 ghost use Rattle.rules.specs.Stored.{slot-word, Within};
 ghost use Rattle.rules.specs.Entries.{check};
-ghost use Rattle.interval.specs.Interval.{range-of};
 ghost use Rattle.sound.specs.Answer.{number-of};
 ghost use Rattle.sound.specs.Slot.{bound, exact-height, exact-size, exact-max, fits-here};
 ghost use Rattle.sound.specs.Slot.{zeros-here, header-here};

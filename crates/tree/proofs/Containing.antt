@@ -4,19 +4,20 @@ use mathlib.Core.Bool.{Bool, true, false}
 use mathlib.Core.List.{List}
 use mathlib.Core.Path.{_≡_, refl, ap, _∙_}
 use Rattle.rules.specs.Range.{Range, range, same, order}
-use Rattle.rules.specs.Tree.{Entry, Tree, leaf, node}
+use Rattle.rules.specs.Tree.{Tree, leaf, node}
 use Rattle.rules.specs.Balance.{Side, near}
 use Rattle.rules.specs.Edit.{find}
 use Rattle.rules.specs.Stored.{slot-word, Rooted}
 use Rattle.node.proofs.Trees.{at-node}
-use Rattle.balance.proofs.Rotated.{near-child}
 use Rattle.tree.specs.Edits.{is-some}
-use Rattle.tree.proofs.Hanging.{way, find-way, not-none, not-node, range-read, near-rooted}
+use Rattle.tree.proofs.Hanging.{find-way, not-none, not-node, range-read, near-rooted, Turn, turns}
 
+-- in no tree there is nothing
 pub none-there : {ss : List ℕ} {k : ℕ} (key : Range) (t : Tree) → k ≡ 0 → Rooted ss k t → false ≡ is-some (find key t)
 none-there key leaf h p = refl
 none-there key (node e l r) h p = absurd (not-node p h)
 
+-- the range in slot k itself
 pub is-there : {ss : List ℕ} {k : ℕ} (key : Range) (t : Tree) → (k ≡ 0 → ⊥) → Rooted ss k t
     → order key (range (slot-word ss k 0) (slot-word ss k 1)) ≡ same
     → true ≡ is-some (find key t)
@@ -25,13 +26,12 @@ is-there key (node e l r) h p o =
     let equal : order key (e .range) ≡ same = rw (range-read (at-node p)) at o in
     rw equal refl
 
--- what is found below is what is found
-pub there-in-child : (s : Side) (key : Range) {ss : List ℕ} {k a : ℕ} {r : Bool} → a ≡ near-child s ss k
-    → order key (range (slot-word ss k 0) (slot-word ss k 1)) ≡ way s
-    → (t : Tree) → (k ≡ 0 → ⊥) → Rooted ss k t
-    → ((u : Tree) → Rooted ss a u → r ≡ is-some (find key u))
-    → r ≡ is-some (find key t)
-there-in-child s key a-is o leaf h p below = absurd (not-none p h)
-there-in-child s key a-is o (node e l r) h p below =
+-- what is found in the child that the search turns to is what is found
+pub there-in-child : {s : Side} (key : Range) {ss : List ℕ} {k a b : ℕ} {found : Bool} → Turn s key ss k a b
+    → (t : Tree) → Rooted ss k t
+    → ((u : Tree) → Rooted ss a u → found ≡ is-some (find key u))
+    → found ≡ is-some (find key t)
+there-in-child key w leaf p below = absurd (not-none p (w .there))
+there-in-child {s} key w (node e l r) p below =
     let at = at-node p in
-    below (near s l r) (near-rooted s at a-is refl) ∙ ap is-some (find-way s key e l r (rw (range-read at) at o))
+    below (near s l r) (near-rooted s at (w .near-is) (w .far-is)) ∙ ap is-some (find-way s key e l r (turns w at))

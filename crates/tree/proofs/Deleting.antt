@@ -1,27 +1,24 @@
--- A delete in slots: what takes the place of the entry that goes, and what each call is given and leaves.
--- Assumes nothing.
-use Prim.Native.Nat.{ℕ, suc, _+_, _≤_, _<_}
-use mathlib.Core.List.{List, [], _∷_, _++_, map, map-append}
+-- The place of an entry that goes: what closes it, and which slot a delete takes off. Assumes nothing.
+use Prim.Native.Nat.{ℕ, _+_, _≤_}
+use mathlib.Core.List.{List, [], _∷_, map, map-append}
 use mathlib.Core.Option.{Option, none, some}
-use mathlib.Core.Path.{_≡_, refl, sym, ap, subst, _∙_}
+use mathlib.Core.Path.{_≡_, refl, sym, ap, _∙_}
 use native.Mathlib.Omega.{arith}
-use Rattle.rules.specs.Range.{Range, range, same, order}
+use Rattle.rules.specs.Range.{Range}
 use Rattle.rules.specs.Tree.{Entry, Tree, leaf, node, levels, entries}
-use Rattle.rules.specs.Balance.{Side, left, right, near, far, balance, balanced-join}
+use Rattle.rules.specs.Balance.{left, balance}
 use Rattle.rules.specs.Edit.{find, delete, shed, outermost, close}
 use Rattle.rules.specs.Pool.{times, slots}
-use Rattle.rules.specs.Stored.{slot-word, Stored, Rooted, Left}
+use Rattle.rules.specs.Stored.{Rooted, Left}
 use Rattle.rules.proofs.Times.{times-append, times-node, times-one}
 use Rattle.rules.proofs.Inorder.{entries-close}
 use Rattle.rules.proofs.Ways.{Down, no-tree, at-root, to-left, to-right, down}
-use Rattle.node.specs.Node.{levels-at, Hung}
-use Rattle.node.proofs.Trees.{AtNode, at-node, kept-refl, bears-kept, rooted-kept, left-then}
-use Rattle.balance.proofs.Rotated.{near-child, far-child}
-use Rattle.tree.specs.Edits.{end-slot, Sheds, Pair, Deletes}
+use Rattle.node.specs.Node.{Hung}
+use Rattle.node.proofs.Trees.{kept-refl, bears-kept, rooted-kept, left-then}
+use Rattle.tree.specs.Edits.{Sheds, Pair}
 use Rattle.tree.specs.declared.Removed.{Removed}
-use Rattle.tree.specs.declared.Deleted.the-variants.{Gone, Absent}
-use Rattle.tree.proofs.Hanging.{way, times-balance, not-none, not-node, range-read, near-rooted, far-rooted, parts-once, hung-again, settled, falls}
-use Rattle.tree.proofs.Shedding.{tall-there, times-ended, bears-end}
+use Rattle.tree.proofs.Hanging.{times-balance, not-none, not-node}
+use Rattle.tree.proofs.Shedding.{times-ended, bears-end}
 
 -- what closes the gap has the slots of both subtrees
 pub times-close : (x : ℕ) (t u : Tree) → times x (slots (close t u)) ≡ times x (slots t) + times x (slots u)

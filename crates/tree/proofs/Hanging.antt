@@ -1,23 +1,21 @@
 -- A child was changed by a call: it is hung in its place again and balanced. For either side, and for every edit.
 -- Assumes nothing.
-use Prim.Native.Nat.{ℕ, suc, _+_, _*_, _%_, _/_, _≤_, _<_}
-use mathlib.Core.List.{List, [], _∷_, _++_, map, map-append}
+use Prim.Native.Nat.{ℕ, _+_, _≤_, _<_}
+use mathlib.Core.List.{List, [], _∷_, map}
 use mathlib.Core.Path.{_≡_, refl, sym, ap, _∙_}
 use native.Mathlib.Omega.{arith}
-use lib.ListN.{length}
-use Rattle.rules.specs.Limits.{slot-words, half}
 use Rattle.rules.specs.Range.{Range, range, Order, less, more, order}
-use Rattle.rules.specs.Tree.{Entry, Tree, leaf, node, levels, entries, root}
+use Rattle.rules.specs.Tree.{Entry, Tree, leaf, node}
 use Rattle.rules.specs.Balance.{Side, left, right, near, far, balance, balanced-join}
 use Rattle.rules.specs.Edit.{find}
 use Rattle.rules.specs.Pool.{times, slots}
-use Rattle.rules.specs.Stored.{slot-word, Within, Stored, live, Rooted, Left}
-use Rattle.rules.proofs.Times.{times-append, times-cons, times-node, times-one}
+use Rattle.rules.specs.Stored.{slot-word, Within, Rooted, Left}
+use Rattle.rules.proofs.Times.{times-node, times-one}
 use Rattle.rules.proofs.Inorder.{entries-balance}
 use Rattle.interval.specs.Interval.{order-of}
 use Rattle.interval.specs.declared.Ordering.{Ordering}
 use Rattle.node.specs.Node.{levels-at, Hung}
-use Rattle.node.proofs.Trees.{AtNode, at-node, AtRoot, at-root, bears-kept, rooted-kept, left-then}
+use Rattle.node.proofs.Trees.{AtNode, at-node, at-root, bears-kept, rooted-kept, left-then}
 use Rattle.balance.proofs.Sides.{hung-turned, times-sides, rooted-near, rooted-far}
 use Rattle.balance.proofs.Rotated.{near-child, far-child}
 
@@ -113,3 +111,16 @@ falls right p q = let whole = at-root p in let part = at-root q in omega arith
 pub order-told : {o p : Ordering} (key : Range) {found at : Range} → order-of o ≡ order key found → found ≡ at → o ≡ p
     → order key at ≡ order-of p
 order-told key told read is = rw (← read, ← told) (ap order-of is)
+
+-- At the node in slot k the order sends a search for a range to the child a on the side; b is the child on the other.
+pub record Turn (s : Side) (key : Range) (ss : List ℕ) (k a b : ℕ) : Type 0 where
+  pub there : k ≡ 0 → ⊥
+  pub near-is : a ≡ near-child s ss k
+  pub far-is : b ≡ far-child s ss k
+  pub way-is : order key (range (slot-word ss k 0) (slot-word ss k 1)) ≡ way s
+
+-- the range of the node is one that the search turns at
+pub turns : {s : Side} {key : Range} {ss : List ℕ} {k a b : ℕ} {e : Entry} {l r : Tree} → Turn s key ss k a b
+    → AtNode ss k e l r
+    → order key (e .range) ≡ way s
+turns w at = rw (range-read at) at (w .way-is)

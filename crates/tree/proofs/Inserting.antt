@@ -1,26 +1,25 @@
 -- An insert in slots: what each of its calls is given, and what they leave. Assumes nothing.
-use Prim.Native.Nat.{ℕ, suc, _+_, _*_, _%_, _/_, _≤_, _<_}
+use Prim.Native.Nat.{ℕ, _+_, _≤_, _<_}
 use mathlib.Core.List.{List, [], _∷_}
 use mathlib.Core.Option.{Option, none, some}
-use mathlib.Core.Path.{_≡_, refl, sym, ap, _∙_}
+use mathlib.Core.Path.{_≡_, refl, sym, _∙_}
 use mathlib.Core.Logic.{⊎-elim}
 use native.Mathlib.Omega.{arith}
-use Rattle.rules.specs.Range.{Range, range, Order, less, same, more, order}
+use Rattle.rules.specs.Range.{range, same, order}
 use Rattle.rules.specs.Tree.{Entry, Tree, leaf, node}
 use Rattle.rules.specs.Balance.{Side, left, right, near, far, balance, balanced-join}
 use Rattle.rules.specs.Edit.{find, insert}
 use Rattle.rules.specs.Pool.{times, slots}
-use Rattle.rules.specs.Stored.{slot-word, Within, Rooted, Left}
+use Rattle.rules.specs.Stored.{slot-word, Left}
 use Rattle.rules.proofs.Tests.{eq-cases}
 use Rattle.rules.proofs.Times.{times-node, times-apart, times-most-once}
 use Rattle.rules.proofs.Ways.{Down, no-tree, at-root, to-left, to-right, down}
 use Rattle.node.specs.Node.{levels-at, Hung, Slot}
-use Rattle.node.proofs.Trees.{AtNode, at-node}
+use Rattle.node.proofs.Trees.{at-node}
 use Rattle.balance.proofs.Sides.{times-sides}
-use Rattle.balance.proofs.Rotated.{near-child, far-child}
 use Rattle.tree.specs.Edits.{Inserting, Inserts}
 use Rattle.tree.specs.declared.Inserted.the-variants.{At, There}
-use Rattle.tree.proofs.Hanging.{way, find-way, times-balance, not-none, not-node, at-slot, range-read, near-rooted, parts-once, hung-again, settled, falls}
+use Rattle.tree.proofs.Hanging.{way, find-way, times-balance, not-none, not-node, range-read, near-rooted, parts-once, hung-again, settled, falls, Turn, turns}
 
 -- what is found is not none
 found-not-none : {o : Option Entry} {x : Entry} → o ≡ some x → o ≡ none → ⊥
@@ -68,71 +67,73 @@ into-there x (node e l r) h p o =
     let equal : order (x .range) (e .range) ≡ same = rw (range-read (at-node (p .rooted))) at o in
     ((e, rw equal refl), refl)
 
--- Down into the child a on the side s, whose other child is b.
-module _ (s : Side) (x : Entry) {ss : List ℕ} {k a b : ℕ} (a-is : a ≡ near-child s ss k) (b-is : b ≡ far-child s ss k)
-    (o : order (x .range) (range (slot-word ss k 0) (slot-word ss k 1)) ≡ way s) where
-  turn : {e : Entry} {l r : Tree} → AtNode ss k e l r → order (x .range) (e .range) ≡ way s
-  turn at = rw (range-read at) at o
-
+-- Down into the child a on the side, whose other child is b.
+module _ (x : Entry) {s : Side} {ss : List ℕ} {k a b : ℕ} (w : Turn s (x .range) ss k a b) where
   inserting-near : {e : Entry} {l r : Tree} → Inserting ss k (x .slot) (node e l r) → Inserting ss a (x .slot) (near s l r)
   inserting-near {e} {l} {r} p =
       record {
-        rooted = near-rooted s (at-node (p .rooted)) a-is b-is;
+        rooted = near-rooted s (at-node (p .rooted)) (w .near-is) (w .far-is);
         within = p .within;
         absent = let none = p .absent in omega (arith, times-node (x .slot) e l r, times-sides (x .slot) s l r);
       }
 
   -- the insert into the child may be called
-  pub goes-down : (t : Tree) → (k ≡ 0 → ⊥) → Inserting ss k (x .slot) t
+  pub goes-down : (t : Tree) → Inserting ss k (x .slot) t
       → (levels-at ss a < levels-at ss k) × ((u : Tree) × Inserting ss a (x .slot) u)
-  goes-down leaf h p = absurd (not-none (p .rooted) h)
-  goes-down (node e l r) h p =
-      (falls s (p .rooted) (near-rooted s (at-node (p .rooted)) a-is b-is), (near s l r, inserting-near p))
+  goes-down leaf p = absurd (not-none (p .rooted) (w .there))
+  goes-down (node e l r) p =
+      let below = inserting-near p in
+      (falls s (p .rooted) (below .rooted), (near s l r, below))
 
   -- the range was there below
-  pub there-below : {between : List ℕ} (t : Tree) → (k ≡ 0 → ⊥) → Inserting ss k (x .slot) t
+  pub there-below : {between : List ℕ} (t : Tree) → Inserting ss k (x .slot) t
       → ((u : Tree) → Inserting ss a (x .slot) u → Inserts There ss between x u)
       → Inserts There ss between x t
-  there-below leaf h p below = absurd (not-none (p .rooted) h)
-  there-below (node e l r) h p below =
+  there-below leaf p below = absurd (not-none (p .rooted) (w .there))
+  there-below (node e l r) p below =
       let found = below (near s l r) (inserting-near p) in
-      ((found .0 .0, sym (find-way s (x .range) e l r (turn (at-node (p .rooted)))) ∙ found .0 .1), found .1)
+      ((found .0 .0, sym (find-way s (x .range) e l r (turns w (at-node (p .rooted)))) ∙ found .0 .1), found .1)
 
   -- no slot of the parts is counted twice after the insert below
   apart-below : {e : Entry} {l r : Tree} → Inserting ss k (x .slot) (node e l r) → find (x .range) (near s l r) ≡ none
       → (y : ℕ) → times y (e .slot ∷ []) + (times y (slots (insert x (near s l r))) + times y (slots (far s l r))) ≤ 1
   apart-below {e} {l} {r} p new y =
-      ⊎-elim (λ same-slot. let here = rw (← same-slot .0) at (p .absent) in omega (arith, times-inserted y x (near s l r) new, times-node y e l r, times-sides y s l r, times-most-once y (x .slot)))
-      (λ other. omega (arith, times-inserted y x (near s l r) new, parts-once s (at-node (p .rooted)) a-is b-is y, times-apart y (x .slot) (other .0)))
+      let more = times-inserted y x (near s l r) new in
+      let once = parts-once s (at-node (p .rooted)) (w .near-is) (w .far-is) y in
+      ⊎-elim
+      (λ here.
+      let absent = rw (← here .0) at (p .absent) in
+      omega (arith, times-node y e l r, times-sides y s l r, times-most-once y (x .slot)))
+      (λ other. omega (arith, times-apart y (x .slot) (other .0)))
       (eq-cases y (x .slot))
 
   module _ {between : List ℕ} {below : ℕ} where
     -- what balance is given after the insert below
-    pub hangs : (t : Tree) → (k ≡ 0 → ⊥) → Inserting ss k (x .slot) t
+    pub hangs : (t : Tree) → Inserting ss k (x .slot) t
         → ((u : Tree) → Inserting ss a (x .slot) u → Inserts (At below) ss between x u)
         → (e : Entry) × (u : Tree) × (v : Tree) × Hung between k (near s below b) (far s below b) e u v
-    hangs leaf h p done = absurd (not-none (p .rooted) h)
-    hangs (node e l r) h p done =
+    hangs leaf p done = absurd (not-none (p .rooted) (w .there))
+    hangs (node e l r) p done =
         let found = done (near s l r) (inserting-near p) in (
           e,
           near s (insert x (near s l r)) (far s l r),
           far s (insert x (near s l r)) (far s l r),
-          hung-again s (at-node (p .rooted)) a-is b-is (found .1) (apart-below p (found .0)),
+          hung-again s (at-node (p .rooted)) (w .near-is) (w .far-is) (found .1) (apart-below p (found .0)),
         )
 
     -- and what all leave
-    pub inserted-below : {after : List ℕ} {top : ℕ} (t : Tree) → (k ≡ 0 → ⊥) → Inserting ss k (x .slot) t
+    pub inserted-below : {after : List ℕ} {top : ℕ} (t : Tree) → Inserting ss k (x .slot) t
         → ((u : Tree) → Inserting ss a (x .slot) u → Inserts (At below) ss between x u)
         → ((e : Entry) (u v : Tree) → Hung between k (near s below b) (far s below b) e u v → Left between after top (balance e u v))
         → Inserts (At top) ss after x t
-    inserted-below leaf h p done balanced = absurd (not-none (p .rooted) h)
-    inserted-below (node e l r) h p done balanced =
+    inserted-below leaf p done balanced = absurd (not-none (p .rooted) (w .there))
+    inserted-below (node e l r) p done balanced =
         let at = at-node (p .rooted) in
         let found = done (near s l r) (inserting-near p) in
         let apart = apart-below p (found .0) in (
-          sym (find-way s (x .range) e l r (turn at)) ∙ found .0,
-          rw (← insert-way s x e l r (turn at))
-              (settled s at a-is b-is (found .1) apart
+          sym (find-way s (x .range) e l r (turns w at)) ∙ found .0,
+          rw (← insert-way s x e l r (turns w at))
+              (settled s at (w .near-is) (w .far-is) (found .1) apart
               (balanced e (near s (insert x (near s l r)) (far s l r)) (far s (insert x (near s l r)) (far s l r))
-              (hung-again s at a-is b-is (found .1) apart))),
+              (hung-again s at (w .near-is) (w .far-is) (found .1) apart))),
         )

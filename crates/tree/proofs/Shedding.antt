@@ -1,28 +1,28 @@
 -- The removal of the outermost entry on a side, in slots: what its calls are given, and what they leave. Assumes nothing.
-use Prim.Native.Nat.{ℕ, suc, _+_, _≤_, _<_}
+use Prim.Native.Nat.{ℕ, _+_, _≤_, _<_}
 use mathlib.Core.List.{List, [], _∷_}
-use mathlib.Core.Path.{_≡_, refl, sym, ap, subst, _∙_}
+use mathlib.Core.Path.{_≡_, refl, sym, subst, _∙_}
 use native.Mathlib.Omega.{arith}
 use Rattle.rules.specs.Tree.{Entry, Tree, leaf, node, levels}
 use Rattle.rules.specs.Balance.{Side, left, right, near, far, balanced-join}
 use Rattle.rules.specs.Edit.{shed, outermost}
 use Rattle.rules.specs.Pool.{times, slots}
-use Rattle.rules.specs.Stored.{Within, Bears, Stored, live, Rooted, Left}
-use Rattle.rules.proofs.Times.{times-cons, times-node}
+use Rattle.rules.specs.Stored.{Bears, Stored, live, Rooted, Left}
+use Rattle.rules.proofs.Times.{times-cons}
 use Rattle.rules.proofs.Searching.{times-shed}
 use Rattle.node.specs.Node.{levels-at, Hung}
-use Rattle.node.proofs.Trees.{AtNode, at-node, kept-refl}
+use Rattle.node.proofs.Trees.{at-node, kept-refl}
 use Rattle.balance.proofs.Rotated.{near-child, far-child}
 use Rattle.tree.specs.Edits.{end-slot, Sheds}
 use Rattle.tree.specs.declared.Removed.{Removed}
-use Rattle.tree.proofs.Hanging.{not-none, near-rooted, far-rooted, parts-once, hung-again, beside, settled, falls, times-balanced-join}
+use Rattle.tree.proofs.Hanging.{not-none, near-rooted, far-rooted, parts-once, beside, settled, falls}
 
 -- a slot that is not none holds a tree of some levels, and none holds none
 pub tall-there : {ss : List ℕ} {k : ℕ} (t : Tree) → Rooted ss k t → (k ≡ 0 → ⊥) → 1 ≤ levels t
 tall-there leaf p h = absurd (not-none p h)
 tall-there (node e l r) p h = omega arith
 
-pub no-levels : {ss : List ℕ} {k : ℕ} (t : Tree) → Rooted ss k t → k ≡ 0 → levels t ≡ 0
+no-levels : {ss : List ℕ} {k : ℕ} (t : Tree) → Rooted ss k t → k ≡ 0 → levels t ≡ 0
 no-levels leaf p h = refl
 no-levels (node e l r) p h = absurd (let at = at-node p .at in omega arith)
 

@@ -1,4 +1,4 @@
--- What insert and the removals are given and leave, in the words of the slots.
+-- What a search, insert and the removals are given and leave, in the words of the slots.
 use Prim.Native.Nat.{ℕ, _+_, _≤_}
 use mathlib.Core.Bool.{Bool, true, false}
 use mathlib.Core.List.{List}

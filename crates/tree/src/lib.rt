@@ -1,15 +1,15 @@
-// lib.rs of the crate, second half: insert and the removals, by recursion over slot numbers, the height falling.
+// lib.rs of the crate, second half: insert and the removals, by recursion over slot numbers, the height falling; and,
+// added, whether a range is there.
 use balance::Side;
 use interval::Interval;
 use interval::Ordering;
 ghost use mathlib.Core.Path.{_≡_};
-ghost use Rattle.rules.specs.Range.{range};
-ghost use Rattle.rules.specs.Tree.{Entry, Tree, levels};
+ghost use Prim.Native.Nat.{_≤_};
+ghost use Rattle.rules.specs.Tree.{Tree, levels};
 ghost use Rattle.rules.specs.Edit.{find, close};
-ghost use Rattle.rules.specs.Stored.{slot-word, Within, Rooted, Left};
+ghost use Rattle.rules.specs.Stored.{Rooted, Left};
 ghost use Rattle.node.specs.Node.{entry};
 ghost use Rattle.interval.specs.Interval.{range-of};
-ghost use Prim.Native.Nat.{_≤_};
 ghost use Rattle.balance.specs.Sides.{side-of};
 ghost use Rattle.tree.specs.Edits.{is-some, Inserting, Inserts, Sheds, Pair, Deletes};
 

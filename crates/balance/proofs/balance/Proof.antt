@@ -3,16 +3,12 @@ use mathlib.Core.Path.{_≡_, sym, _∙_}
 use Prim.Native.Nat.{ℕ, _<_, _≤_}
 use borrow.Author.Needs.{needs}
 use native.Mathlib.Omega.{arith}
-use Rattle.node.specs.Node.{factor}
+use Rattle.node.specs.Node.{levels-at, factor}
 use Rattle.node.specs.declared.Factor.{Factor}
 use Rattle.balance.proofs.Sides.{hung-turned}
 use Rattle.balance.proofs.Chosen.{ready, right-too-high, balanced-right, left-too-high, balanced-left, balanced-yet}
 use Rattle.balance.proofs.balance.Statement.{statement}
 use Rattle.balance.proofs.balance.Tie as tie
-
--- the factor of the heights that were read is the one that was told
-chosen : {a b x y : ℕ} {f g : Factor} → f ≡ factor a b → a ≡ x → b ≡ y → f ≡ g → factor x y ≡ g
-chosen p q r told = rw (← q, ← r) (sym p ∙ told)
 
 -- more than one level is one at least
 some-level : {a b : ℕ} → a < b → 1 ≤ b
@@ -30,15 +26,23 @@ balance-factor-requires c κs =
     let ok = ready (d .pre .3) in
     rw (c .before .before .height .ensures, c .height2 .ensures) (ok .left-low, ok .right-low)
 
+-- where the factor has been told: from which start, and that it is the factor of the stored heights
+abbrev start : tie.After-balance-factor → tie.Start
+start d = d .before .before .before .before .before .before
+
+known : (d : tie.After-balance-factor) {f : Factor} → d .balance-factor .result ≡ f
+    → let a = start d .args in factor (levels-at (a .slots .now) (a .l)) (levels-at (a .slots .now) (a .r)) ≡ f
+known d told =
+    rw (← d .before .before .before .height .ensures, ← d .before .height2 .ensures) (sym (d .balance-factor .ensures) ∙ told)
+
 enum-told : tie.Need-enum-told
 enum-told c = search needs
 
 mend-requires : tie.Need-mend-requires
 mend-requires c κs =
     let d = c .before .before .before in
-    let p = d .before .before .before .before .before .before .pre in
-    let known = chosen (d .balance-factor .ensures) (d .before .before .before .height .ensures) (d .before .height2 .ensures) (c .before .enum-told .given .1) in
-    (p .0, p .2, p .1, hung-turned (p .3), some-level (right-too-high (p .3) known))
+    let p = start d .pre in
+    (p .0, p .2, p .1, hung-turned (p .3), some-level (right-too-high (p .3) (known d (c .before .enum-told .given .1))))
 
 enum-told-2 : tie.Need-enum-told-2
 enum-told-2 c = search needs
@@ -46,9 +50,8 @@ enum-told-2 c = search needs
 mend-requires-2 : tie.Need-mend-requires-2
 mend-requires-2 c κs =
     let d = c .before .before .before in
-    let p = d .before .before .before .before .before .before .pre in
-    let known = chosen (d .balance-factor .ensures) (d .before .before .before .height .ensures) (d .before .height2 .ensures) (c .before .enum-told2 .given .1) in
-    (p .0, p .1, p .2, p .3, some-level (left-too-high (p .3) known))
+    let p = start d .pre in
+    (p .0, p .1, p .2, p .3, some-level (left-too-high (p .3) (known d (c .before .enum-told2 .given .1))))
 
 enum-told-3 : tie.Need-enum-told-3
 enum-told-3 c = search needs
@@ -62,8 +65,8 @@ same-length c = search needs
 returns : tie.Need-returns
 returns c e t u h =
     let d = c .before .before .before .before .before .before in
-    let known = chosen (d .balance-factor .ensures) (d .before .before .before .height .ensures) (d .before .height2 .ensures) (c .before .before .before .before .enum-told .given .1) in
-    balanced-right h known (c .before .before .mend .ensures e u t (hung-turned h) (some-level (right-too-high h known)))
+    let told = known d (c .before .before .before .before .enum-told .given .1) in
+    balanced-right h told (c .before .before .mend .ensures e u t (hung-turned h) (some-level (right-too-high h told)))
 
 same-length-2 : tie.Need-same-length-2
 same-length-2 c = search needs
@@ -71,8 +74,8 @@ same-length-2 c = search needs
 returns-2 : tie.Need-returns-2
 returns-2 c e t u h =
     let d = c .before .before .before .before .before .before in
-    let known = chosen (d .balance-factor .ensures) (d .before .before .before .height .ensures) (d .before .height2 .ensures) (c .before .before .before .before .enum-told2 .given .1) in
-    balanced-left h known (c .before .before .mend2 .ensures e t u h (some-level (left-too-high h known)))
+    let told = known d (c .before .before .before .before .enum-told2 .given .1) in
+    balanced-left h told (c .before .before .mend2 .ensures e t u h (some-level (left-too-high h told)))
 
 same-length-3 : tie.Need-same-length-3
 same-length-3 c = search needs
@@ -80,8 +83,8 @@ same-length-3 c = search needs
 returns-3 : tie.Need-returns-3
 returns-3 c e t u h =
     let d = c .before .before .before .before .before .before in
-    let known = chosen (d .balance-factor .ensures) (d .before .before .before .height .ensures) (d .before .height2 .ensures) (c .before .before .before .before .enum-told3 .given .1) in
-    balanced-yet h known (c .before .before .update .ensures e t u h)
+    let told = known d (c .before .before .before .before .enum-told3 .given .1) in
+    balanced-yet h told (c .before .before .update .ensures e t u h)
 
 pub balance-spec : {M : Type 1} → statement M
 balance-spec =

@@ -1,27 +1,20 @@
+-- `set_entry` changes the first three words of a slot. Assumes nothing.
 use borrow.Author.Needs.{needs}
 use Rattle.node.proofs.set_entry.Statement.{statement}
 use Rattle.node.proofs.set_entry.Tie as tie
-use Rattle.node.proofs.set_entry.Reads as reads
-use Rattle.node.proofs.set_entry.Lts as lts
-use Rattle.node.proofs.set_word.Reads as set-word-reads
 
--- src/lib.rt:143:5
 set-word-requires : tie.Need-set-word-requires
 set-word-requires c κs = search needs
 
--- src/lib.rt:144:5
 set-word-requires-2 : tie.Need-set-word-requires-2
 set-word-requires-2 c κs = search needs
 
--- src/lib.rt:145:5
 set-word-requires-3 : tie.Need-set-word-requires-3
 set-word-requires-3 c κs = search needs
 
--- src/lib.rt:139:1
 same-length : tie.Need-same-length
 same-length c = search needs
 
--- src/lib.rt:139:1
 returns : tie.Need-returns
 returns c = cc
 

@@ -1,13 +1,16 @@
 -- `contains` answers whether the rules' `find` finds the range. The measure is the stored height. Assumes nothing.
 use Prim.Native.Nat.{ℕ, _<_}
-use mathlib.Core.Path.{refl}
+use mathlib.Core.Path.{_≡_, refl, _∙_}
 use borrow.Author.Needs.{needs}
 use borrow.Fn.Kinds.{In}
 use borrow.Fn.PlainCycle.{Measures, is, falls, and}
-use Rattle.rules.specs.Balance.{left, right}
+use Rattle.rules.specs.Range.{Range}
+use Rattle.rules.specs.Balance.{Side, left, right}
 use Rattle.node.specs.Node.{levels-at}
-use Rattle.interval.specs.Interval.{range-of}
-use Rattle.tree.proofs.Hanging.{at-slot, order-told}
+use Rattle.interval.specs.Interval.{range-of, order-of}
+use Rattle.interval.specs.declared.Ordering.{Ordering}
+use Rattle.balance.proofs.Rotated.{near-child, far-child}
+use Rattle.tree.proofs.Hanging.{way, at-slot, order-told, Turn}
 use Rattle.tree.proofs.Removing.{looks-below}
 use Rattle.tree.proofs.Containing.{none-there, is-there, there-in-child}
 use Rattle.tree.proofs.contains.Reads as contains
@@ -54,45 +57,53 @@ module _ (t : ℕ) where
   enum-told : contains-lts.Need-enum-told (calls t) (contains-at t) contains.Post
   enum-told c = search needs
 
+  -- what is known where the order test has been made, and from which start
+  abbrev Tested : Type 0
+  Tested = contains-lts.After-cmp (calls t) (contains-at t) contains.Post
+
+  abbrev start : Tested → contains-lts.Start (calls t) (contains-at t) contains.Post
+  start d = d .before .before .before .before
+
+  -- the range that is looked for
+  abbrev sought : Tested → Range
+  sought d = range-of (start d .args .key)
+
+  there : (d : Tested) → start d .args .k ≡ 0 → ⊥
+  there d = d .before .before .if1 .left
+
+  -- the way that the test sent the search
+  to-side : (s : Side) (d : Tested) {o : Ordering} {a : ℕ} → d .cmp .result ≡ o → order-of o ≡ way s
+      → a ≡ near-child s (start d .args .slots .now) (start d .args .k)
+      → Turn s (sought d) (start d .args .slots .now) (start d .args .k) a (far-child s (start d .args .slots .now) (start d .args .k))
+  to-side s d told is read =
+      record {
+        there = there d;
+        near-is = read;
+        far-is = refl;
+        way-is = order-told (sought d) (d .cmp .ensures) (d .before .interval-at .ensures) told ∙ is;
+      }
+
   child-requires : contains-lts.Need-child-requires (calls t) (contains-at t) contains.Post
-  child-requires c κs =
-      let d = c .before .before in
-      let start = d .before .before .before .before in
-      let key = range-of (start .args .key) in
-      let there = d .before .before .if1 .left in
-      let p = start .pre .1 in
-      at-slot (p .0) (p .1) there
+  child-requires c κs = let d = c .before .before in let p = start d .pre .1 in at-slot (p .0) (p .1) (there d)
 
   contains-requires : contains-lts.Need-contains-requires (calls t) (contains-at t) contains.Post
   contains-requires c κs =
       let d = c .before .before .before in
-      let start = d .before .before .before .before in
-      let key = range-of (start .args .key) in
-      let there = d .before .before .if1 .left in
-      let p = start .pre in
-      let down = looks-below left key (c .child .ensures) refl (order-told key (d .cmp .ensures) (d .before .interval-at .ensures) (c .before .enum-told .given .1)) (p .1 .0) there (p .1 .1) in
+      let p = start d .pre in
+      let down = looks-below (sought d) (to-side left d (c .before .enum-told .given .1) refl (c .child .ensures)) (p .1 .0) (p .1 .1) in
       (rw (← p .0) (down .0), down .1)
 
   enum-told-2 : contains-lts.Need-enum-told-2 (calls t) (contains-at t) contains.Post
   enum-told-2 c = search needs
 
   child-requires-2 : contains-lts.Need-child-requires-2 (calls t) (contains-at t) contains.Post
-  child-requires-2 c κs =
-      let d = c .before .before in
-      let start = d .before .before .before .before in
-      let key = range-of (start .args .key) in
-      let there = d .before .before .if1 .left in
-      let p = start .pre .1 in
-      at-slot (p .0) (p .1) there
+  child-requires-2 c κs = let d = c .before .before in let p = start d .pre .1 in at-slot (p .0) (p .1) (there d)
 
   contains-requires-2 : contains-lts.Need-contains-requires-2 (calls t) (contains-at t) contains.Post
   contains-requires-2 c κs =
       let d = c .before .before .before in
-      let start = d .before .before .before .before in
-      let key = range-of (start .args .key) in
-      let there = d .before .before .if1 .left in
-      let p = start .pre in
-      let down = looks-below right key (c .child2 .ensures) refl (order-told key (d .cmp .ensures) (d .before .interval-at .ensures) (c .before .enum-told2 .given .1)) (p .1 .0) there (p .1 .1) in
+      let p = start d .pre in
+      let down = looks-below (sought d) (to-side right d (c .before .enum-told2 .given .1) refl (c .child2 .ensures)) (p .1 .0) (p .1 .1) in
       (rw (← p .0) (down .0), down .1)
 
   enum-told-3 : contains-lts.Need-enum-told-3 (calls t) (contains-at t) contains.Post
@@ -101,26 +112,20 @@ module _ (t : ℕ) where
   returns-2 : contains-lts.Need-returns-2 (calls t) (contains-at t) contains.Post
   returns-2 c u p =
       let d = c .before .before .before .before in
-      let start = d .before .before .before .before in
-      let key = range-of (start .args .key) in
-      let there = d .before .before .if1 .left in
-      there-in-child left key (c .before .child .ensures) (order-told key (d .cmp .ensures) (d .before .interval-at .ensures) (c .before .before .enum-told .given .1)) u there p (c .contains .ensures)
+      there-in-child (sought d) (to-side left d (c .before .before .enum-told .given .1) refl (c .before .child .ensures)) u p
+      (c .contains .ensures)
 
   returns-3 : contains-lts.Need-returns-3 (calls t) (contains-at t) contains.Post
   returns-3 c u p =
       let d = c .before .before .before .before in
-      let start = d .before .before .before .before in
-      let key = range-of (start .args .key) in
-      let there = d .before .before .if1 .left in
-      there-in-child right key (c .before .child2 .ensures) (order-told key (d .cmp .ensures) (d .before .interval-at .ensures) (c .before .before .enum-told2 .given .1)) u there p (c .contains2 .ensures)
+      there-in-child (sought d) (to-side right d (c .before .before .enum-told2 .given .1) refl (c .before .child2 .ensures)) u p
+      (c .contains2 .ensures)
 
   returns-4 : contains-lts.Need-returns-4 (calls t) (contains-at t) contains.Post
   returns-4 c u p =
       let d = c .before .before in
-      let start = d .before .before .before .before in
-      let key = range-of (start .args .key) in
-      let there = d .before .before .if1 .left in
-      is-there key u there p (order-told key (d .cmp .ensures) (d .before .interval-at .ensures) (c .enum-told3 .given .1))
+      is-there (sought d) u (there d) p
+      (order-told (sought d) (d .cmp .ensures) (d .before .interval-at .ensures) (c .enum-told3 .given .1))
 
 pub +contains-spec : {M : Type 1} → statement M
 +contains-spec =

@@ -1,13 +1,16 @@
 -- `delete` leaves the rules' tree, or nothing changed where the range was not there. The measure is the stored height.
 -- Assumes nothing.
 use Prim.Native.Nat.{ℕ, _<_}
+use mathlib.Core.Path.{_≡_}
 use borrow.Author.Needs.{needs}
 use borrow.Fn.Kinds.{In}
 use borrow.Fn.PlainCycle.{Measures, is, falls, and}
+use Rattle.rules.specs.Range.{Range}
 use Rattle.rules.specs.Balance.{left, right}
 use Rattle.node.specs.Node.{levels-at}
 use Rattle.interval.specs.Interval.{range-of}
-use Rattle.tree.proofs.Hanging.{at-slot, order-told}
+use Rattle.interval.specs.declared.Ordering.the-variants.{Less, Greater}
+use Rattle.tree.proofs.Hanging.{at-slot, order-told, Turn}
 use Rattle.tree.proofs.Removing.{from-none, closes, goes-itself, looks-below, absent-below, hangs-gone, gone-below}
 use Rattle.tree.proofs.delete.Reads as delete
 use Rattle.tree.proofs.delete.Kinds as delete-kinds
@@ -65,16 +68,46 @@ module _ (t : ℕ) where
   enum-told : delete-lts.Need-enum-told (calls t) (delete-at t) delete.Post
   enum-told c = search needs
 
+  -- what is known where the order test has been made, and from which start
+  abbrev Tested : Type 0
+  Tested = delete-lts.After-cmp (calls t) (delete-at t) delete.Post
+
+  abbrev start : Tested → delete-lts.Start (calls t) (delete-at t) delete.Post
+  start d = d .before .before .before .before .before .before .before .before .before
+
+  -- the range that is to be taken out
+  abbrev sought : Tested → Range
+  sought d = range-of (start d .args .key)
+
+  there : (d : Tested) → start d .args .k ≡ 0 → ⊥
+  there d = d .before .before .before .before .before .before .before .if1 .left
+
+  -- the way that the test sent the search
+  to-left : (d : Tested) → d .cmp .result ≡ Less
+      → Turn left (sought d) (start d .args .slots .now) (start d .args .k) (d .before .before .before .before .before .child .result) (d .before .before .before .child2 .result)
+  to-left d told =
+      record {
+        there = there d;
+        near-is = d .before .before .before .before .before .child .ensures;
+        far-is = d .before .before .before .child2 .ensures;
+        way-is = order-told (sought d) (d .cmp .ensures) (d .before .interval-at .ensures) told;
+      }
+
+  to-right : (d : Tested) → d .cmp .result ≡ Greater
+      → Turn right (sought d) (start d .args .slots .now) (start d .args .k) (d .before .before .before .child2 .result) (d .before .before .before .before .before .child .result)
+  to-right d told =
+      record {
+        there = there d;
+        near-is = d .before .before .before .child2 .ensures;
+        far-is = d .before .before .before .before .before .child .ensures;
+        way-is = order-told (sought d) (d .cmp .ensures) (d .before .interval-at .ensures) told;
+      }
+
   delete-requires : delete-lts.Need-delete-requires (calls t) (delete-at t) delete.Post
   delete-requires c κs =
       let d = c .before .before .before in
-      let start = d .before .before .before .before .before .before .before .before .before in
-      let key = range-of (start .args .key) in
-      let there = d .before .before .before .before .before .before .before .if1 .left in
-      let lefts = d .before .before .before .before .before .child .ensures in
-      let rights = d .before .before .before .child2 .ensures in
-      let p = start .pre in
-      let down = looks-below left key lefts rights (order-told key (d .cmp .ensures) (d .before .interval-at .ensures) (c .before .enum-told .given .1)) (p .1 .0) there (p .1 .1) in
+      let p = start d .pre in
+      let down = looks-below (sought d) (to-left d (c .before .enum-told .given .1)) (p .1 .0) (p .1 .1) in
       (rw (← p .0) (down .0), down .1)
 
   enum-known-below : delete-lts.Need-enum-known-below (calls t) (delete-at t) delete.Post
@@ -83,13 +116,8 @@ module _ (t : ℕ) where
   balance-requires : delete-lts.Need-balance-requires (calls t) (delete-at t) delete.Post
   balance-requires c κs =
       let d = c .before .before .before .before .before .before .before .before .before .before in
-      let start = d .before .before .before .before .before .before .before .before .before in
-      let key = range-of (start .args .key) in
-      let there = d .before .before .before .before .before .before .before .if1 .left in
-      let lefts = d .before .before .before .before .before .child .ensures in
-      let rights = d .before .before .before .child2 .ensures in
-      let p = start .pre .1 in
-      hangs-gone left key lefts rights (order-told key (d .cmp .ensures) (d .before .interval-at .ensures) (c .before .before .before .before .before .before .before .before .enum-told .given .1)) (p .0) there (p .1)
+      let p = start d .pre .1 in
+      hangs-gone (sought d) (to-left d (c .before .before .before .before .before .before .before .before .enum-told .given .1)) (p .0) (p .1)
       (rw (c .before .before .below .given .1) at (c .before .before .before .before .before .before .delete .ensures))
 
   enum-told-2 : delete-lts.Need-enum-told-2 (calls t) (delete-at t) delete.Post
@@ -101,13 +129,8 @@ module _ (t : ℕ) where
   delete-requires-2 : delete-lts.Need-delete-requires-2 (calls t) (delete-at t) delete.Post
   delete-requires-2 c κs =
       let d = c .before .before .before in
-      let start = d .before .before .before .before .before .before .before .before .before in
-      let key = range-of (start .args .key) in
-      let there = d .before .before .before .before .before .before .before .if1 .left in
-      let lefts = d .before .before .before .before .before .child .ensures in
-      let rights = d .before .before .before .child2 .ensures in
-      let p = start .pre in
-      let down = looks-below right key rights lefts (order-told key (d .cmp .ensures) (d .before .interval-at .ensures) (c .before .enum-told3 .given .1)) (p .1 .0) there (p .1 .1) in
+      let p = start d .pre in
+      let down = looks-below (sought d) (to-right d (c .before .enum-told3 .given .1)) (p .1 .0) (p .1 .1) in
       (rw (← p .0) (down .0), down .1)
 
   enum-known-below-2 : delete-lts.Need-enum-known-below-2 (calls t) (delete-at t) delete.Post
@@ -116,13 +139,8 @@ module _ (t : ℕ) where
   balance-requires-2 : delete-lts.Need-balance-requires-2 (calls t) (delete-at t) delete.Post
   balance-requires-2 c κs =
       let d = c .before .before .before .before .before .before .before .before .before .before in
-      let start = d .before .before .before .before .before .before .before .before .before in
-      let key = range-of (start .args .key) in
-      let there = d .before .before .before .before .before .before .before .if1 .left in
-      let lefts = d .before .before .before .before .before .child .ensures in
-      let rights = d .before .before .before .child2 .ensures in
-      let p = start .pre .1 in
-      hangs-gone right key rights lefts (order-told key (d .cmp .ensures) (d .before .interval-at .ensures) (c .before .before .before .before .before .before .before .before .enum-told3 .given .1)) (p .0) there (p .1)
+      let p = start d .pre .1 in
+      hangs-gone (sought d) (to-right d (c .before .before .before .before .before .before .before .before .enum-told3 .given .1)) (p .0) (p .1)
       (rw (c .before .before .below2 .given .1) at (c .before .before .before .before .before .before .delete2 .ensures))
 
   enum-told-4 : delete-lts.Need-enum-told-4 (calls t) (delete-at t) delete.Post
@@ -134,13 +152,8 @@ module _ (t : ℕ) where
   close-requires : delete-lts.Need-close-requires (calls t) (delete-at t) delete.Post
   close-requires c κs =
       let d = c .before .before .before in
-      let start = d .before .before .before .before .before .before .before .before .before in
-      let key = range-of (start .args .key) in
-      let there = d .before .before .before .before .before .before .before .if1 .left in
-      let lefts = d .before .before .before .before .before .child .ensures in
-      let rights = d .before .before .before .child2 .ensures in
-      let p = start .pre .1 in
-      closes key lefts rights (p .0) (p .1) there
+      let p = start d .pre .1 in
+      closes (d .before .before .before .before .before .child .ensures) (d .before .before .before .child2 .ensures) (p .0) (p .1) (there d)
 
   same-length : delete-lts.Need-same-length (calls t) (delete-at t) delete.Post
   same-length c = search needs
@@ -148,12 +161,7 @@ module _ (t : ℕ) where
   returns-2 : delete-lts.Need-returns-2 (calls t) (delete-at t) delete.Post
   returns-2 c u p =
       let d = c .before .before .before .before .before .before .before .before .before .before .before .before .before in
-      let start = d .before .before .before .before .before .before .before .before .before in
-      let key = range-of (start .args .key) in
-      let there = d .before .before .before .before .before .before .before .if1 .left in
-      let lefts = d .before .before .before .before .before .child .ensures in
-      let rights = d .before .before .before .child2 .ensures in
-      gone-below left key lefts rights (order-told key (d .cmp .ensures) (d .before .interval-at .ensures) (c .before .before .before .before .before .before .before .before .before .before .before .enum-told .given .1)) u there p
+      gone-below (sought d) (to-left d (c .before .before .before .before .before .before .before .before .before .before .before .enum-told .given .1)) u p
       (rw (c .before .before .before .before .before .below .given .1) at (c .before .before .before .before .before .before .before .before .before .delete .ensures))
       (c .before .before .balance .ensures)
 
@@ -163,12 +171,7 @@ module _ (t : ℕ) where
   returns-3 : delete-lts.Need-returns-3 (calls t) (delete-at t) delete.Post
   returns-3 c u p =
       let d = c .before .before .before .before .before .before .before .before in
-      let start = d .before .before .before .before .before .before .before .before .before in
-      let key = range-of (start .args .key) in
-      let there = d .before .before .before .before .before .before .before .if1 .left in
-      let lefts = d .before .before .before .before .before .child .ensures in
-      let rights = d .before .before .before .child2 .ensures in
-      absent-below left key lefts rights (order-told key (d .cmp .ensures) (d .before .interval-at .ensures) (c .before .before .before .before .before .before .enum-told .given .1)) u there p
+      absent-below (sought d) (to-left d (c .before .before .before .before .before .before .enum-told .given .1)) u p
       (rw (c .enum-told2 .given .1) at (c .before .before .before .before .delete .ensures))
 
   same-length-3 : delete-lts.Need-same-length-3 (calls t) (delete-at t) delete.Post
@@ -177,12 +180,7 @@ module _ (t : ℕ) where
   returns-4 : delete-lts.Need-returns-4 (calls t) (delete-at t) delete.Post
   returns-4 c u p =
       let d = c .before .before .before .before .before .before .before .before .before .before .before .before .before in
-      let start = d .before .before .before .before .before .before .before .before .before in
-      let key = range-of (start .args .key) in
-      let there = d .before .before .before .before .before .before .before .if1 .left in
-      let lefts = d .before .before .before .before .before .child .ensures in
-      let rights = d .before .before .before .child2 .ensures in
-      gone-below right key rights lefts (order-told key (d .cmp .ensures) (d .before .interval-at .ensures) (c .before .before .before .before .before .before .before .before .before .before .before .enum-told3 .given .1)) u there p
+      gone-below (sought d) (to-right d (c .before .before .before .before .before .before .before .before .before .before .before .enum-told3 .given .1)) u p
       (rw (c .before .before .before .before .before .below2 .given .1) at (c .before .before .before .before .before .before .before .before .before .delete2 .ensures))
       (c .before .before .balance2 .ensures)
 
@@ -192,12 +190,7 @@ module _ (t : ℕ) where
   returns-5 : delete-lts.Need-returns-5 (calls t) (delete-at t) delete.Post
   returns-5 c u p =
       let d = c .before .before .before .before .before .before .before .before in
-      let start = d .before .before .before .before .before .before .before .before .before in
-      let key = range-of (start .args .key) in
-      let there = d .before .before .before .before .before .before .before .if1 .left in
-      let lefts = d .before .before .before .before .before .child .ensures in
-      let rights = d .before .before .before .child2 .ensures in
-      absent-below right key rights lefts (order-told key (d .cmp .ensures) (d .before .interval-at .ensures) (c .before .before .before .before .before .before .enum-told3 .given .1)) u there p
+      absent-below (sought d) (to-right d (c .before .before .before .before .before .before .enum-told3 .given .1)) u p
       (rw (c .enum-told4 .given .1) at (c .before .before .before .before .delete2 .ensures))
 
   same-length-5 : delete-lts.Need-same-length-5 (calls t) (delete-at t) delete.Post
@@ -206,12 +199,9 @@ module _ (t : ℕ) where
   returns-6 : delete-lts.Need-returns-6 (calls t) (delete-at t) delete.Post
   returns-6 c u p =
       let d = c .before .before .before .before .before .before in
-      let start = d .before .before .before .before .before .before .before .before .before in
-      let key = range-of (start .args .key) in
-      let there = d .before .before .before .before .before .before .before .if1 .left in
-      let lefts = d .before .before .before .before .before .child .ensures in
-      let rights = d .before .before .before .child2 .ensures in
-      goes-itself key lefts rights u p there (order-told key (d .cmp .ensures) (d .before .interval-at .ensures) (c .before .before .before .before .enum-told5 .given .1)) (c .before .before .close .ensures)
+      goes-itself (d .before .before .before .before .before .child .ensures) (d .before .before .before .child2 .ensures) (sought d) u p (there d)
+      (order-told (sought d) (d .cmp .ensures) (d .before .interval-at .ensures) (c .before .before .before .before .enum-told5 .given .1))
+      (c .before .before .close .ensures)
 
 pub +delete-spec : {M : Type 1} → statement M
 +delete-spec =

@@ -1,11 +1,14 @@
 -- `delete_end` takes the outermost entry on the side off. The measure is the stored height. Assumes nothing.
 use Prim.Native.Nat.{ℕ, _<_}
+use mathlib.Core.Path.{_≡_}
 use borrow.Author.Needs.{needs}
 use borrow.Fn.Kinds.{In}
 use borrow.Fn.PlainCycle.{Measures, is, falls, and}
+use Rattle.rules.specs.Balance.{Side}
 use Rattle.node.specs.Node.{levels-at}
 use Rattle.balance.specs.Sides.{side-of}
 use Rattle.balance.proofs.Sides.{far-from-other}
+use Rattle.balance.proofs.Rotated.{near-child, far-child}
 use Rattle.balance.proofs.Mended.{root-within}
 use Rattle.tree.proofs.Shedding.{sheds-last, goes-out, hangs-shed, sheds-below}
 use Rattle.tree.proofs.delete_end.Reads as delete-end
@@ -49,41 +52,41 @@ module _ (t : ℕ) where
   child-requires-2 : delete-end-lts.Need-child-requires-2 (calls t) (delete-end-at t) delete-end.Post
   child-requires-2 c κs = let p = c .before .before .before .before .before .pre .1 in root-within (p .0) (p .1) (p .2)
 
+  -- where both children have been read: from which start, on which side, and what they are
+  abbrev Read : Type 0
+  Read = delete-end-lts.After-child2 (calls t) (delete-end-at t) delete-end.Post
+
+  abbrev start : Read → delete-end-lts.Start (calls t) (delete-end-at t) delete-end.Post
+  start d = d .before .before .before .before .before .before
+
+  abbrev side : Read → Side
+  side d = side-of (start d .args .side)
+
+  near-is : (d : Read) → d .before .before .before .child .result ≡ near-child (side d) (start d .args .slots .now) (start d .args .k)
+  near-is d = d .before .before .before .child .ensures
+
+  far-is : (d : Read) → d .child2 .result ≡ far-child (side d) (start d .args .slots .now) (start d .args .k)
+  far-is d = far-from-other (side d) _ _ (d .before .opposite .ensures) (d .child2 .ensures)
+
   same-length : delete-end-lts.Need-same-length (calls t) (delete-end-at t) delete-end.Post
   same-length c = search needs
 
   returns : delete-end-lts.Need-returns (calls t) (delete-end-at t) delete-end.Post
-  returns c u p tall =
-      let d = c .before in
-      let first = d .before .before .before in
-      let start = first .before .before .before in
-      let s = side-of (start .args .side) in
-      let fars = far-from-other s _ _ (d .before .opposite .ensures) (d .child2 .ensures) in
-      let nears = first .child .ensures in
-      sheds-last s nears fars u p tall (c .if1 .taken)
+  returns c u p tall = let d = c .before in sheds-last (side d) (near-is d) (far-is d) u p tall (c .if1 .taken)
 
   delete-end-requires : delete-end-lts.Need-delete-end-requires (calls t) (delete-end-at t) delete-end.Post
   delete-end-requires c κs =
       let d = c .before .before in
-      let first = d .before .before .before in
-      let start = first .before .before .before in
-      let s = side-of (start .args .side) in
-      let fars = far-from-other s _ _ (d .before .opposite .ensures) (d .child2 .ensures) in
-      let nears = first .child .ensures in
-      let p = start .pre in
-      let out = goes-out s nears fars (p .1 .0) (p .1 .1) (p .1 .2) (c .before .if1 .left) in
+      let p = start d .pre in
+      let out = goes-out (side d) (near-is d) (far-is d) (p .1 .0) (p .1 .1) (p .1 .2) (c .before .if1 .left) in
       (rw (← p .0) (out .0), out .1)
 
   rebalance-requires : delete-end-lts.Need-rebalance-requires (calls t) (delete-end-at t) delete-end.Post
   rebalance-requires c κs =
       let d = c .before .before .before .before .before .before in
-      let first = d .before .before .before in
-      let start = first .before .before .before in
-      let s = side-of (start .args .side) in
-      let fars = far-from-other s _ _ (d .before .opposite .ensures) (d .child2 .ensures) in
-      let nears = first .child .ensures in
-      let p = start .pre .1 in
-      hangs-shed s nears fars (p .0) (p .1) (p .2) (c .before .before .before .before .before .if1 .left) (c .before .before .before .delete-end .ensures)
+      let p = start d .pre .1 in
+      hangs-shed (side d) (near-is d) (far-is d) (p .0) (p .1) (p .2) (c .before .before .before .before .before .if1 .left)
+      (c .before .before .before .delete-end .ensures)
 
   same-length-2 : delete-end-lts.Need-same-length-2 (calls t) (delete-end-at t) delete-end.Post
   same-length-2 c = search needs
@@ -91,12 +94,7 @@ module _ (t : ℕ) where
   returns-2 : delete-end-lts.Need-returns-2 (calls t) (delete-end-at t) delete-end.Post
   returns-2 c u p tall =
       let d = c .before .before .before .before .before .before .before .before .before in
-      let first = d .before .before .before in
-      let start = first .before .before .before in
-      let s = side-of (start .args .side) in
-      let fars = far-from-other s _ _ (d .before .opposite .ensures) (d .child2 .ensures) in
-      let nears = first .child .ensures in
-      sheds-below s nears fars u p tall (c .before .before .before .before .before .before .before .before .if1 .left) (c .before .before .before .before .before .before .delete-end .ensures)
+      sheds-below (side d) (near-is d) (far-is d) u p tall (c .before .before .before .before .before .before .before .before .if1 .left) (c .before .before .before .before .before .before .delete-end .ensures)
       (c .before .before .rebalance .ensures)
 
 pub +delete-end-spec : {M : Type 1} → statement M

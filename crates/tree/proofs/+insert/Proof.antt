@@ -1,13 +1,15 @@
 -- `insert` leaves the rules' tree, or nothing changed where the range was there. The measure is the stored height.
 -- Assumes nothing.
 use Prim.Native.Nat.{ℕ, _<_}
-use mathlib.Core.Path.{_≡_, sym, _∙_}
+use mathlib.Core.Path.{_≡_}
 use borrow.Author.Needs.{needs}
 use borrow.Fn.Kinds.{In}
 use borrow.Fn.PlainCycle.{Measures, is, falls, and}
+use Rattle.rules.specs.Tree.{Entry}
 use Rattle.rules.specs.Balance.{left, right}
 use Rattle.node.specs.Node.{levels-at, entry}
-use Rattle.tree.proofs.Hanging.{at-slot, order-told}
+use Rattle.interval.specs.declared.Ordering.the-variants.{Less, Greater}
+use Rattle.tree.proofs.Hanging.{at-slot, order-told, Turn}
 use Rattle.tree.proofs.Inserting.{new-slot, into-none, into-there, goes-down, hangs, inserted-below, there-below}
 use Rattle.tree.proofs.insert.Reads as insert
 use Rattle.tree.proofs.insert.Kinds as insert-kinds
@@ -55,8 +57,7 @@ module _ (t : ℕ) where
 
   returns : insert-lts.Need-returns (calls t) (insert-at t) insert.Post
   returns c u p =
-      let start = c .before .before .before .before .before .before in
-      let a = start .args in
+      let a = c .before .before .before .before .before .before .args in
       into-none (entry (a .new) (a .key .start) (a .key .end) (a .value)) u (c .before .before .before .before .if1 .taken) p
       (c .before .before .new .ensures)
 
@@ -75,17 +76,46 @@ module _ (t : ℕ) where
   enum-told : insert-lts.Need-enum-told (calls t) (insert-at t) insert.Post
   enum-told c = search needs
 
+  -- what is known where the order test has been made, and from which start
+  abbrev Tested : Type 0
+  Tested = insert-lts.After-cmp (calls t) (insert-at t) insert.Post
+
+  abbrev start : Tested → insert-lts.Start (calls t) (insert-at t) insert.Post
+  start d = d .before .before .before .before .before .before .before .before .before
+
+  -- the entry that is to be put in
+  abbrev added : Tested → Entry
+  added d = let a = start d .args in entry (a .new) (a .key .start) (a .key .end) (a .value)
+
+  there : (d : Tested) → start d .args .k ≡ 0 → ⊥
+  there d = d .before .before .before .before .before .before .before .if1 .left
+
+  -- the way that the test sent it
+  to-left : (d : Tested) → d .cmp .result ≡ Less
+      → Turn left (added d .range) (start d .args .slots .now) (start d .args .k) (d .before .before .before .before .before .child .result) (d .before .before .before .child2 .result)
+  to-left d told =
+      record {
+        there = there d;
+        near-is = d .before .before .before .before .before .child .ensures;
+        far-is = d .before .before .before .child2 .ensures;
+        way-is = order-told (added d .range) (d .cmp .ensures) (d .before .interval-at .ensures) told;
+      }
+
+  to-right : (d : Tested) → d .cmp .result ≡ Greater
+      → Turn right (added d .range) (start d .args .slots .now) (start d .args .k) (d .before .before .before .child2 .result) (d .before .before .before .before .before .child .result)
+  to-right d told =
+      record {
+        there = there d;
+        near-is = d .before .before .before .child2 .ensures;
+        far-is = d .before .before .before .before .before .child .ensures;
+        way-is = order-told (added d .range) (d .cmp .ensures) (d .before .interval-at .ensures) told;
+      }
+
   insert-requires : insert-lts.Need-insert-requires (calls t) (insert-at t) insert.Post
   insert-requires c κs =
       let d = c .before .before .before in
-      let start = d .before .before .before .before .before .before .before .before .before in
-      let a = start .args in
-      let x = entry (a .new) (a .key .start) (a .key .end) (a .value) in
-      let there = d .before .before .before .before .before .before .before .if1 .left in
-      let lefts = d .before .before .before .before .before .child .ensures in
-      let rights = d .before .before .before .child2 .ensures in
-      let p = start .pre in
-      let down = goes-down left x lefts rights (order-told (x .range) (d .cmp .ensures) (d .before .interval-at .ensures) (c .before .enum-told .given .1)) (p .1 .0) there (p .1 .1) in
+      let p = start d .pre in
+      let down = goes-down (added d) (to-left d (c .before .enum-told .given .1)) (p .1 .0) (p .1 .1) in
       (rw (← p .0) (down .0), down .1)
 
   enum-known-below : insert-lts.Need-enum-known-below (calls t) (insert-at t) insert.Post
@@ -94,14 +124,8 @@ module _ (t : ℕ) where
   balance-requires : insert-lts.Need-balance-requires (calls t) (insert-at t) insert.Post
   balance-requires c κs =
       let d = c .before .before .before .before .before .before .before .before .before .before in
-      let start = d .before .before .before .before .before .before .before .before .before in
-      let a = start .args in
-      let x = entry (a .new) (a .key .start) (a .key .end) (a .value) in
-      let there = d .before .before .before .before .before .before .before .if1 .left in
-      let lefts = d .before .before .before .before .before .child .ensures in
-      let rights = d .before .before .before .child2 .ensures in
-      let p = start .pre .1 in
-      hangs left x lefts rights (order-told (x .range) (d .cmp .ensures) (d .before .interval-at .ensures) (c .before .before .before .before .before .before .before .before .enum-told .given .1)) (p .0) there (p .1)
+      let p = start d .pre .1 in
+      hangs (added d) (to-left d (c .before .before .before .before .before .before .before .before .enum-told .given .1)) (p .0) (p .1)
       (rw (c .before .before .below .given .1) at (c .before .before .before .before .before .before .insert .ensures))
 
   enum-told-2 : insert-lts.Need-enum-told-2 (calls t) (insert-at t) insert.Post
@@ -113,14 +137,8 @@ module _ (t : ℕ) where
   insert-requires-2 : insert-lts.Need-insert-requires-2 (calls t) (insert-at t) insert.Post
   insert-requires-2 c κs =
       let d = c .before .before .before in
-      let start = d .before .before .before .before .before .before .before .before .before in
-      let a = start .args in
-      let x = entry (a .new) (a .key .start) (a .key .end) (a .value) in
-      let there = d .before .before .before .before .before .before .before .if1 .left in
-      let lefts = d .before .before .before .before .before .child .ensures in
-      let rights = d .before .before .before .child2 .ensures in
-      let p = start .pre in
-      let down = goes-down right x rights lefts (order-told (x .range) (d .cmp .ensures) (d .before .interval-at .ensures) (c .before .enum-told3 .given .1)) (p .1 .0) there (p .1 .1) in
+      let p = start d .pre in
+      let down = goes-down (added d) (to-right d (c .before .enum-told3 .given .1)) (p .1 .0) (p .1 .1) in
       (rw (← p .0) (down .0), down .1)
 
   enum-known-below-2 : insert-lts.Need-enum-known-below-2 (calls t) (insert-at t) insert.Post
@@ -129,14 +147,8 @@ module _ (t : ℕ) where
   balance-requires-2 : insert-lts.Need-balance-requires-2 (calls t) (insert-at t) insert.Post
   balance-requires-2 c κs =
       let d = c .before .before .before .before .before .before .before .before .before .before in
-      let start = d .before .before .before .before .before .before .before .before .before in
-      let a = start .args in
-      let x = entry (a .new) (a .key .start) (a .key .end) (a .value) in
-      let there = d .before .before .before .before .before .before .before .if1 .left in
-      let lefts = d .before .before .before .before .before .child .ensures in
-      let rights = d .before .before .before .child2 .ensures in
-      let p = start .pre .1 in
-      hangs right x rights lefts (order-told (x .range) (d .cmp .ensures) (d .before .interval-at .ensures) (c .before .before .before .before .before .before .before .before .enum-told3 .given .1)) (p .0) there (p .1)
+      let p = start d .pre .1 in
+      hangs (added d) (to-right d (c .before .before .before .before .before .before .before .before .enum-told3 .given .1)) (p .0) (p .1)
       (rw (c .before .before .below2 .given .1) at (c .before .before .before .before .before .before .insert2 .ensures))
 
   enum-told-4 : insert-lts.Need-enum-told-4 (calls t) (insert-at t) insert.Post
@@ -151,13 +163,7 @@ module _ (t : ℕ) where
   returns-2 : insert-lts.Need-returns-2 (calls t) (insert-at t) insert.Post
   returns-2 c u p =
       let d = c .before .before .before .before .before .before .before .before .before .before .before .before .before in
-      let start = d .before .before .before .before .before .before .before .before .before in
-      let a = start .args in
-      let x = entry (a .new) (a .key .start) (a .key .end) (a .value) in
-      let there = d .before .before .before .before .before .before .before .if1 .left in
-      let lefts = d .before .before .before .before .before .child .ensures in
-      let rights = d .before .before .before .child2 .ensures in
-      inserted-below left x lefts rights (order-told (x .range) (d .cmp .ensures) (d .before .interval-at .ensures) (c .before .before .before .before .before .before .before .before .before .before .before .enum-told .given .1)) u there p
+      inserted-below (added d) (to-left d (c .before .before .before .before .before .before .before .before .before .before .before .enum-told .given .1)) u p
       (rw (c .before .before .before .before .before .below .given .1) at (c .before .before .before .before .before .before .before .before .before .insert .ensures))
       (c .before .before .balance .ensures)
 
@@ -167,13 +173,7 @@ module _ (t : ℕ) where
   returns-3 : insert-lts.Need-returns-3 (calls t) (insert-at t) insert.Post
   returns-3 c u p =
       let d = c .before .before .before .before .before .before .before .before in
-      let start = d .before .before .before .before .before .before .before .before .before in
-      let a = start .args in
-      let x = entry (a .new) (a .key .start) (a .key .end) (a .value) in
-      let there = d .before .before .before .before .before .before .before .if1 .left in
-      let lefts = d .before .before .before .before .before .child .ensures in
-      let rights = d .before .before .before .child2 .ensures in
-      there-below left x lefts rights (order-told (x .range) (d .cmp .ensures) (d .before .interval-at .ensures) (c .before .before .before .before .before .before .enum-told .given .1)) u there p
+      there-below (added d) (to-left d (c .before .before .before .before .before .before .enum-told .given .1)) u p
       (rw (c .enum-told2 .given .1) at (c .before .before .before .before .insert .ensures))
 
   same-length-4 : insert-lts.Need-same-length-4 (calls t) (insert-at t) insert.Post
@@ -182,13 +182,7 @@ module _ (t : ℕ) where
   returns-4 : insert-lts.Need-returns-4 (calls t) (insert-at t) insert.Post
   returns-4 c u p =
       let d = c .before .before .before .before .before .before .before .before .before .before .before .before .before in
-      let start = d .before .before .before .before .before .before .before .before .before in
-      let a = start .args in
-      let x = entry (a .new) (a .key .start) (a .key .end) (a .value) in
-      let there = d .before .before .before .before .before .before .before .if1 .left in
-      let lefts = d .before .before .before .before .before .child .ensures in
-      let rights = d .before .before .before .child2 .ensures in
-      inserted-below right x rights lefts (order-told (x .range) (d .cmp .ensures) (d .before .interval-at .ensures) (c .before .before .before .before .before .before .before .before .before .before .before .enum-told3 .given .1)) u there p
+      inserted-below (added d) (to-right d (c .before .before .before .before .before .before .before .before .before .before .before .enum-told3 .given .1)) u p
       (rw (c .before .before .before .before .before .below2 .given .1) at (c .before .before .before .before .before .before .before .before .before .insert2 .ensures))
       (c .before .before .balance2 .ensures)
 
@@ -198,13 +192,7 @@ module _ (t : ℕ) where
   returns-5 : insert-lts.Need-returns-5 (calls t) (insert-at t) insert.Post
   returns-5 c u p =
       let d = c .before .before .before .before .before .before .before .before in
-      let start = d .before .before .before .before .before .before .before .before .before in
-      let a = start .args in
-      let x = entry (a .new) (a .key .start) (a .key .end) (a .value) in
-      let there = d .before .before .before .before .before .before .before .if1 .left in
-      let lefts = d .before .before .before .before .before .child .ensures in
-      let rights = d .before .before .before .child2 .ensures in
-      there-below right x rights lefts (order-told (x .range) (d .cmp .ensures) (d .before .interval-at .ensures) (c .before .before .before .before .before .before .enum-told3 .given .1)) u there p
+      there-below (added d) (to-right d (c .before .before .before .before .before .before .enum-told3 .given .1)) u p
       (rw (c .enum-told4 .given .1) at (c .before .before .before .before .insert2 .ensures))
 
   same-length-6 : insert-lts.Need-same-length-6 (calls t) (insert-at t) insert.Post
@@ -213,13 +201,8 @@ module _ (t : ℕ) where
   returns-6 : insert-lts.Need-returns-6 (calls t) (insert-at t) insert.Post
   returns-6 c u p =
       let d = c .before .before in
-      let start = d .before .before .before .before .before .before .before .before .before in
-      let a = start .args in
-      let x = entry (a .new) (a .key .start) (a .key .end) (a .value) in
-      let there = d .before .before .before .before .before .before .before .if1 .left in
-      let lefts = d .before .before .before .before .before .child .ensures in
-      let rights = d .before .before .before .child2 .ensures in
-      into-there x u there p (order-told (x .range) (d .cmp .ensures) (d .before .interval-at .ensures) (c .enum-told5 .given .1))
+      into-there (added d) u (there d) p
+      (order-told (added d .range) (d .cmp .ensures) (d .before .interval-at .ensures) (c .enum-told5 .given .1))
 
 pub +insert-spec : {M : Type 1} → statement M
 +insert-spec =

@@ -1,5 +1,7 @@
 # Builds the comparison under target/compare. The scripts beside it read this file in, with the repository's root as the
-# current folder. Where the crate's sources or rustc are missing it says so in one line and ends the script with 0.
+# current folder. Where the crate's sources or rustc are missing it says so in one line and ends the script with 0. Where
+# the library can't be linked or run it says so in one line too, and crate and model are compared without it.
+. tools/x86_64.sh
 
 out=target/compare
 sources=${MEMINTERVAL_SRC:-../shared/docs/src/src}
@@ -10,21 +12,24 @@ not_run() {
     exit 0
 }
 
-# Fetches num-traits' sources as Debian packs them into $out/num-traits, whole or not at all.
-fetch_num_traits() {
-    [ ! -d "$out/num-traits" ] || return 0
-    fetched=$out/num-traits.part
-    rm -rf "$fetched"
-    mkdir -p "$fetched/cache"
-    (
-        cd "$fetched" &&
-            timeout 60 apt-get -q -o Dir::Cache="$PWD/cache" -o Acquire::Retries=0 -o Acquire::http::Timeout=10 \
-                download librust-num-traits-dev &&
-            dpkg-deb -x librust-num-traits-dev_*.deb unpacked
-    ) >"$out/fetch.log" 2>&1 && mv "$fetched"/unpacked/usr/share/cargo/registry/num-traits-* "$out/num-traits"
-    status=$?
-    rm -rf "$fetched"
-    return $status
+# Makes the library's archive and the bridge to it. An archive that can't be made is a failure, a missing tool is none.
+build_bridge() {
+    bridge=$out/bridge
+    command -v rt >/dev/null 2>&1 || { without_library "there is no rt to make it" && return; }
+    find_compiler || { without_library "no C compiler or no emulator for x86-64 can be had" && return; }
+    make_archive && c_program compare/bridge.c "$bridge"
+}
+
+# Says why the library isn't compared.
+without_library() {
+    bridge=
+    echo "library not compared: $1"
+}
+
+# Runs the comparison, with the library where there is a bridge to it.
+compare() {
+    if [ -n "$bridge" ]; then set -- "$@" --library ${emulator:+"$emulator"} "$bridge"; fi
+    "$out/compare" "$@"
 }
 
 # Compiles a library: its name, its source, its folder, and what else rustc is to know.
@@ -34,19 +39,20 @@ library() {
     rustc -O --crate-type rlib --crate-name "$name" "$@" --out-dir "$folder" "$source"
 }
 
-# Compiles num-traits in the edition that its own manifest names; no feature of it and no build script is needed.
+# Compiles num-traits' sources, as Debian packs them, in the edition that their own manifest names; no feature and no
+# build script is needed.
 build_num_traits() {
-    fetch_num_traits || return 1
-    traits=$out/debian
-    edition=$(sed -n 's/^edition = "\(.*\)"$/\1/p' "$out/num-traits/Cargo.toml")
-    library num_traits "$out/num-traits/src/lib.rs" "$traits" --edition "${edition:-2015}" --cap-lints allow \
-        >"$out/fetch.log" 2>&1
+    unpack "$out/num-traits" download librust-num-traits-dev || return 1
+    packed=$(echo "$out"/num-traits/usr/share/cargo/registry/num-traits-*) traits=$out/debian
+    edition=$(sed -n 's/^edition = "\(.*\)"$/\1/p' "$packed/Cargo.toml")
+    library num_traits "$packed/src/lib.rs" "$traits" --edition "${edition:-2015}" --cap-lints allow \
+        >"$out/num-traits.log" 2>&1
 }
 
 # Chooses num-traits, or the stand-in, and says which.
 choose_num_traits() {
     if build_num_traits; then
-        version=$(sed -n 's/^version = "\(.*\)"$/\1/p' "$out/num-traits/Cargo.toml" | head -n 1)
+        version=$(sed -n 's/^version = "\(.*\)"$/\1/p' "$packed/Cargo.toml" | head -n 1)
         echo "num-traits: $version, from Debian's package librust-num-traits-dev"
         return 0
     fi
@@ -88,4 +94,4 @@ done
 mkdir -p "$out"
 choose_num_traits && lay_out_crate && build_crate "$out" &&
     library model compare/model/lib.rs "$out" --edition 2021 -C overflow-checks=on &&
-    program compare/driver/main.rs compare "$out" --extern model="$out/libmodel.rlib" || exit 1
+    program compare/driver/main.rs compare "$out" --extern model="$out/libmodel.rlib" && build_bridge || exit 1

@@ -162,7 +162,7 @@ fn step(parties: &mut Parties, request: &Request, tally: &mut Tally) -> Result<(
 /// Runs requests on a fresh pool; the place and the words of the first difference, if there is one.
 fn run(parties: &mut Parties, slots: u64, requests: &[Request], tally: &mut Tally) -> Result<(), (usize, String)> {
     for party in parties.iter_mut() {
-        party.format(slots);
+        party.begin(slots, requests);
     }
     for (at, request) in requests.iter().enumerate() {
         step(parties, request, tally).map_err(|difference| (at, difference))?;

@@ -1,8 +1,9 @@
-//! Damaged pools and any bytes, on the model alone: it has to refuse as document 01 orders, to leave every word of what
-//! it refuses, and never to panic.
+//! Damaged pools and any bytes. The model has to refuse as document 01 orders, to leave every word of what it refuses,
+//! and never to panic; every other set of entries has to do what the model does.
 
 use crate::asks::{self, FLAVOURS};
 use crate::encode;
+use crate::every::{self, Asked, Sets};
 use crate::party::UNTOUCHED;
 use crate::random::Random;
 use model::entry::{self, Applied, Fed, Measured, Queried};
@@ -119,26 +120,67 @@ fn cuts_refused(words: &[u64], records: &[Vec<u8>]) -> bool {
     records.iter().all(|record| (0..=record.len()).all(|length| right(record, length)))
 }
 
-/// Damages so many pools; counts what the check says of them, by the clause that it names.
-pub fn run(pools: u64, seed: u64) -> Result<String, String> {
+/// What the check says of damaged words, by the clause that it names, and whether the model's other entries follow it.
+fn judged(words: &[u64]) -> (String, bool) {
+    let number = entry::check(words);
+    match held(words) {
+        Ok(pool) => ("sound".to_string(), number == 0 && pool.words() == words),
+        Err(clause) => (format!("{clause:?}"), entry::refuses(number) && refused_everywhere(words, number)),
+    }
+}
+
+/// A pool, what became of it by damage, and what is asked of both.
+struct Case {
+    whole: Vec<u64>,
+    damaged: Vec<u64>,
+    bytes: Vec<u8>,
+    span: Span,
+    room: usize,
+}
+
+impl Case {
+    /// The next case.
+    fn draw(random: &mut Random) -> Case {
+        let whole = pool(random);
+        let bytes = bytes(random);
+        let mut damaged = whole.clone();
+        damage(random, &mut damaged);
+        let flavour = random.pick(&FLAVOURS);
+        let ranges = asks::ranges(random, flavour, 20);
+        Case { whole, damaged, bytes, span: asks::query(random, &ranges), room: random.below(40) as usize }
+    }
+
+    /// Every entry of every set on both; gives how many calls were compared with the model's.
+    fn compared(&self, sets: &Sets) -> Result<u64, String> {
+        let asked = Asked { span: self.span, value: 5, bytes: &self.bytes, room: self.room };
+        Ok(every::entries(sets, &self.damaged, &asked)? + every::entries(sets, &self.whole, &asked)?)
+    }
+}
+
+/// Damages so many pools; counts what the check says of them, and the calls of other sets that were compared.
+pub fn run(sets: &Sets, pools: u64, seed: u64) -> Result<String, String> {
     let mut random = Random::new(seed);
     let records = record_of_each_kind();
     let mut found: BTreeMap<String, u64> = BTreeMap::new();
+    let mut compared = every::lengths(sets)? + every::records(sets)?;
     for nth in 0..pools {
-        let whole = pool(&mut random);
-        let run = bytes(&mut random);
-        let mut words = whole.clone();
-        damage(&mut random, &mut words);
-        let number = entry::check(&words);
-        let (what, right) = match held(&words) {
-            Ok(pool) => ("sound".to_string(), number == 0 && pool.words() == words),
-            Err(clause) => (format!("{clause:?}"), entry::refuses(number) && refused_everywhere(&words, number)),
-        };
+        let case = Case::draw(&mut random);
+        let Case { whole, damaged, bytes, .. } = &case;
+        let report =
+            |what: &str| format!("seed {seed}, pool {nth}: {damaged:?} from {whole:?}, bytes {bytes:?}: {what}");
+        let (what, right) = judged(damaged);
         *found.entry(what).or_default() += 1;
-        if !right || !feed_is_repeated_apply(&whole, &run) || !cuts_refused(&whole, &records) {
-            return Err(format!("seed {seed}, pool {nth}: {words:?} from {whole:?}, bytes {run:?}"));
+        if !right || !feed_is_repeated_apply(whole, bytes) || !cuts_refused(whole, &records) {
+            return Err(report("the model answers wrongly"));
         }
+        compared += case.compared(sets).map_err(|difference| report(&difference))?;
     }
     let counts: Vec<String> = found.iter().map(|(what, times)| format!("{what} {times}")).collect();
-    Ok(format!("damaged {pools} pools (seed {seed}), 0 wrong answers; found: {}", counts.join(", ")))
+    let others: Vec<&str> = sets[1..].iter().map(|entries| entries.name()).collect();
+    let by_others = if others.is_empty() {
+        String::new()
+    } else {
+        format!("; {compared} calls of the {} as the model's", others.join(", "))
+    };
+    Ok(format!("damaged {pools} pools (seed {seed}), 0 wrong answers{by_others}; found: {}", counts.join(", ")))
 }

@@ -1,10 +1,9 @@
 //! Document 01's mapped examples 1 to 12. The first seven are run on every party, 8 and 9 on every party that has a
-//! pool, 10 to 12 on the model's words. In them "n" means n..n+1.
+//! pool, 10 to 12 on the words of such. In them "n" means n..n+1.
 
 use crate::compare::Parties;
-use crate::party::{Party, Pooled, Request};
-use crate::reference::Reference;
-use model::entry;
+use crate::every::Sets;
+use crate::party::{Entries, Party, Request};
 use model::{Ask, Edit, Span};
 use std::fmt::Debug;
 
@@ -115,33 +114,38 @@ fn full_and_included(party: &mut dyn Party, facts: &mut Facts) -> Result<(), Str
 }
 
 /// Cases 10 to 12: links, words and lengths.
-fn words_and_lengths(facts: &mut Facts) -> Result<(), String> {
+fn words_and_lengths(entries: &dyn Entries, facts: &mut Facts) -> Result<(), String> {
     let mut words = [LAST; 16];
-    facts.same("11, format", entry::format(&mut words), 0)?;
+    facts.same("11, format", entries.format(&mut words), 0)?;
     facts.same("11, fresh", words, [0, 1, 0, 0, 0, 0, 0, 0, 2, 0, 0, 0, 0, 0, 0, 0])?;
-    entry::edit(&mut words, &Edit::Insert(Span::excluded(10, 20), 7));
+    entries.edit(&mut words, &Edit::Insert(Span::excluded(10, 20), 7));
     facts.same("11, after 10..20", words, [1, 2, 1, 0, 10, 20, 7, 20, 0, 65536, 0, 0, 0, 0, 0, 0])?;
     let links = [&[2][..], &0u32.to_le_bytes(), &200u32.to_le_bytes(), &7u64.to_le_bytes()].concat();
-    facts.same("10, bytes", entry::apply(&mut words, &links, &mut []).bytes, 17)?;
+    facts.same("10, bytes", entries.apply(&mut words, &links, &mut []).bytes, 17)?;
     facts.same("10, end", words[11], 40_233_600)?;
     for (length, number) in [(4, 10), (15, 10), (24_575, 10), (10, 0), (24_574, 0)] {
-        facts.same("12, length", entry::format(&mut vec![0; length]), number)?;
+        facts.same("12, length", entries.format(&mut vec![0; length]), number)?;
     }
     Ok(())
 }
 
 /// Runs all and says how many facts held.
-pub fn run(mut parties: Parties) -> Result<String, String> {
+pub fn run(mut parties: Parties, sets: Sets) -> Result<String, String> {
     let mut facts = Facts::default();
     for party in &mut parties {
         facts.case = format!("examples on {}", party.name());
         touching_and_equal(party.as_mut(), &mut facts)?;
         rotations(party.as_mut(), &mut facts)?;
         inverted(party.as_mut(), &mut facts)?;
+        if !party.words().is_empty() {
+            full_and_included(party.as_mut(), &mut facts)?;
+        }
     }
-    let mut pooled = Pooled::new(Reference);
-    facts.case = format!("examples on {}", pooled.name());
-    full_and_included(&mut pooled, &mut facts)?;
-    words_and_lengths(&mut facts)?;
-    Ok(format!("examples: 1 to 7 on {} parties, 8 to 12 on the model, {} facts hold", parties.len(), facts.held))
+    for entries in &sets {
+        facts.case = format!("examples on {}", entries.name());
+        words_and_lengths(entries.as_ref(), &mut facts)?;
+    }
+    let pooled: Vec<&str> = sets.iter().map(|entries| entries.name()).collect();
+    let (all, pooled) = (parties.len(), pooled.join(" and "));
+    Ok(format!("examples: 1 to 7 on {all} parties, 8 to 12 on {pooled}, {} facts hold", facts.held))
 }

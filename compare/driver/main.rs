@@ -1,14 +1,18 @@
-//! Compares the crate `meminterval` with the reference model, and writes the recorded answers.
+//! Compares the crate `meminterval`, the reference model and the library, and writes the recorded answers.
 //!
 //! usage: compare examples | record FILE | run STEPS SEED | visits TREES SEED | damage POOLS SEED
+//! With `--library COMMAND` at the end the library takes part; the command starts the bridge to it.
 
 mod asks;
+mod bridge;
 mod cases;
 mod compare;
 mod coverage;
 mod damage;
 mod encode;
+mod every;
 mod examples;
+mod library;
 mod list;
 mod original;
 mod party;
@@ -19,27 +23,40 @@ mod slots;
 mod visits;
 
 use compare::{Parties, Tally};
+use every::Sets;
+use library::Library;
 use original::Original;
-use party::Pooled;
+use party::{Party, Pooled};
 use random::Random;
 use reference::Reference;
 use std::process::ExitCode;
 
+/// The sets of entries: the model's, and the library's where the bridge's command is given.
+fn sets(bridge: &[String]) -> Result<Sets, String> {
+    let mut sets: Sets = vec![Box::new(Reference)];
+    if !bridge.is_empty() {
+        sets.push(Box::new(Library::start(bridge)?));
+    }
+    Ok(sets)
+}
+
 /// The parties: the crate judges.
-fn parties() -> Parties {
-    vec![Box::new(Original::default()), Box::new(Pooled::new(Reference))]
+fn parties(bridge: &[String]) -> Result<Parties, String> {
+    let pooled = sets(bridge)?.into_iter().map(|entries| Box::new(Pooled::new(entries)) as Box<dyn Party>);
+    let original: Box<dyn Party> = Box::new(Original::default());
+    Ok([original].into_iter().chain(pooled).collect())
 }
 
 /// Runs random sequences on fresh pools until so many steps are compared.
-fn run(steps: u64, seed: u64) -> Result<String, String> {
-    let mut parties = parties();
+fn run(mut parties: Parties, steps: u64, seed: u64) -> Result<String, String> {
     let mut random = Random::new(seed);
     let mut tally = Tally::default();
     while tally.steps < steps {
         let sequence = requests::sequence(&mut random);
         compare::compare(&mut parties, &sequence, &mut tally).map_err(|report| format!("seed {seed}: {report}"))?;
     }
-    Ok(format!("compared with seed {seed}: {}", tally.line()))
+    let names: Vec<&str> = parties.iter().map(|party| party.name()).collect();
+    Ok(format!("compared {} with seed {seed}: {}", names.join(", "), tally.line()))
 }
 
 /// A number among the arguments.
@@ -50,11 +67,13 @@ fn number(words: &[String], at: usize) -> Result<u64, String> {
 
 /// Does what the arguments ask for, and gives the line to print.
 fn answer(words: &[String]) -> Result<String, String> {
+    let mut parts = words.splitn(2, |word| word == "--library");
+    let (words, bridge) = (parts.next().unwrap_or_default(), parts.next().unwrap_or_default());
     match words.first().map(String::as_str) {
-        Some("examples") => examples::run(parties()),
+        Some("examples") => examples::run(parties(bridge)?, sets(bridge)?),
         Some("record") => list::write(words.get(1).ok_or("a file name is missing")?),
-        Some("run") => run(number(words, 1)?, number(words, 2)?),
-        Some("damage") => damage::run(number(words, 1)?, number(words, 2)?),
+        Some("run") => run(parties(bridge)?, number(words, 1)?, number(words, 2)?),
+        Some("damage") => damage::run(&sets(bridge)?, number(words, 1)?, number(words, 2)?),
         Some("visits") => visits::run(number(words, 1)?, number(words, 2)?),
         _ => Err("the first word is none of examples, record, run, visits, damage".to_string()),
     }

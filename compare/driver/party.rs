@@ -1,4 +1,4 @@
-//! Who is compared, and by what. A party answers requests; a new one, such as a linked library, needs `Entries` only.
+//! Who is compared, and by what. A party answers requests; one that keeps a pool needs `Entries` only.
 
 use crate::encode;
 use model::entry::{Applied, Fed, Measured, Queried};
@@ -58,6 +58,10 @@ pub trait Party {
     fn name(&self) -> &'static str;
     /// Begins with an empty tree over so many slots.
     fn format(&mut self, slots: u64);
+    /// Begins in the same way, and knows which requests will follow.
+    fn begin(&mut self, slots: u64, _: &[Request]) {
+        self.format(slots);
+    }
     /// Answers a request.
     fn reply(&mut self, request: &Request) -> Reply;
     /// The nodes in preorder, or what is wrong with the pool.
@@ -72,8 +76,12 @@ pub trait Party {
 pub trait Entries {
     /// How the party is called in a report.
     fn name(&self) -> &'static str;
+    /// Hears which calls will follow: a format of these words, then those of the requests.
+    fn foresee(&self, _: &[u64], _: &[Request]) {}
     /// Makes the words a fresh pool; gives the number.
     fn format(&self, words: &mut [u64]) -> u64;
+    /// Whether the words are a sound pool; gives the number.
+    fn check(&self, words: &[u64]) -> u64;
     /// Inserts, deletes or clears; gives the number.
     fn edit(&self, words: &mut [u64], edit: &Edit) -> u64;
     /// Writes the rows of a query's hits, as many as fit.
@@ -89,14 +97,14 @@ pub trait Entries {
 }
 
 /// A party that keeps a pool for the entries that it calls.
-pub struct Pooled<E: Entries> {
-    pub entries: E,
-    pub words: Vec<u64>,
+pub struct Pooled {
+    entries: Box<dyn Entries>,
+    words: Vec<u64>,
 }
 
-impl<E: Entries> Pooled<E> {
+impl Pooled {
     /// The party, still without a pool.
-    pub fn new(entries: E) -> Pooled<E> {
+    pub fn new(entries: Box<dyn Entries>) -> Pooled {
         Pooled { entries, words: Vec::new() }
     }
 
@@ -143,7 +151,7 @@ pub fn shapes_of(tree: &Tree) -> Vec<Shape> {
     shapes
 }
 
-impl<E: Entries> Party for Pooled<E> {
+impl Party for Pooled {
     /// The entries' own name.
     fn name(&self) -> &'static str {
         self.entries.name()
@@ -151,7 +159,13 @@ impl<E: Entries> Party for Pooled<E> {
 
     /// Formats words that hold something else before.
     fn format(&mut self, slots: u64) {
+        self.begin(slots, &[]);
+    }
+
+    /// Formats such words, and tells the entries beforehand what follows.
+    fn begin(&mut self, slots: u64, requests: &[Request]) {
         self.words = vec![UNTOUCHED; 4 + 6 * slots as usize];
+        self.entries.foresee(&self.words, requests);
         assert_eq!(self.entries.format(&mut self.words), 0, "format of {slots} slots");
     }
 

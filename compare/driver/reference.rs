@@ -18,6 +18,11 @@ impl Entries for Reference {
         entry::format(words)
     }
 
+    /// The model's check.
+    fn check(&self, words: &[u64]) -> u64 {
+        entry::check(words)
+    }
+
     /// The model's edits.
     fn edit(&self, words: &mut [u64], edit: &Edit) -> u64 {
         entry::edit(words, edit)

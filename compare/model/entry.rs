@@ -1,12 +1,12 @@
 //! What each entry answers, as functions on words and bytes. The refusals come in the order 10, 11, 14, 15, 12,
 //! 1 or 2, 13. A refused call leaves every word as it was.
 
-use crate::pool::{slots_of_length, Pool, DONE};
-use crate::range::Span;
-use crate::record::{read, Ask, Edit, Read, QUERY_KIND};
-use crate::sound::{held, Clause};
-use crate::tree::{self, Side, Turn};
-use crate::walk;
+use super::pool::{slots_of_length, Pool, DONE};
+use super::range::Span;
+use super::record::{read, Ask, Edit, Read, QUERY_KIND};
+use super::sound::{held, Clause};
+use super::tree::{self, Side, Turn};
+use super::walk;
 
 pub const WRONG_LENGTH: u64 = 10;
 pub const UNSOUND: u64 = 11;

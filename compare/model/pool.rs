@@ -1,7 +1,7 @@
 //! A pool as a tree and a chain of free slots, its words, and the edits on it.
 
-use crate::range::Range;
-use crate::tree::{self, Entry, Node, Side, Tree, Turn};
+use super::range::Range;
+use super::tree::{self, Entry, Node, Side, Tree, Turn};
 use std::collections::VecDeque;
 
 pub const HEADER_WORDS: usize = 4;

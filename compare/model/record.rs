@@ -1,6 +1,6 @@
 //! Survey records: what a host may ask of a pool, and how it is read from any bytes.
 
-use crate::range::Span;
+use super::range::Span;
 
 pub const MICROMETRES_PER_METRE: u64 = 1_000_000;
 pub const MICROMETRES_PER_LINK: u64 = 201_168;

@@ -1,8 +1,8 @@
 //! The soundness check: 01's sentence, clause by clause. Words that pass are read back as the pool they hold.
 
-use crate::pool::{first_word, slots_of_length, Pool, HALF, SLOT_WORDS};
-use crate::range::Range;
-use crate::tree::{self, Entry, Node, Side, Tree};
+use super::pool::{first_word, slots_of_length, Pool, HALF, SLOT_WORDS};
+use super::range::Range;
+use super::tree::{self, Entry, Node, Side, Tree};
 use std::cmp::Ordering;
 use std::collections::VecDeque;
 

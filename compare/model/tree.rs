@@ -1,6 +1,6 @@
 //! The tree rules. An entry carries its slot number with it, so that whatever moves in the tree keeps its slot.
 
-use crate::range::Range;
+use super::range::Range;
 use std::cmp::Ordering;
 
 /// What one slot holds for the host, and the slot's number.

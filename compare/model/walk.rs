@@ -1,7 +1,7 @@
 //! The query, twice: as the list of its hits, and as steps on the pending nodes.
 
-use crate::range::Range;
-use crate::tree::{Entry, Node, Tree};
+use super::range::Range;
+use super::tree::{Entry, Node, Tree};
 
 /// "A node whose max isn't above the query's start is passed over with its subtrees."
 fn passed_over(node: &Node, query: Range) -> bool {

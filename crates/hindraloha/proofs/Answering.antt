@@ -2,57 +2,47 @@
 -- Assumes nothing.
 use Prim.Native.Nat.{ℕ}
 use mathlib.Core.List.{List}
-use mathlib.Core.Path.{_≡_, refl, sym, ap, _∙_}
+use mathlib.Core.Path.{_≡_, _∙_}
 use lib.ListN.{length}
 use Rattle.rules.specs.Range.{End}
 use Rattle.rules.specs.Pool.{Pool, Holds, words, capacity}
 use Rattle.rules.specs.Request.{Request, querying, serve}
 use Rattle.rules.specs.Record.{kinds, reads}
 use Rattle.rules.specs.Feed.{feed-turns}
-use Rattle.rules.specs.Entries as rules
 use Rattle.rules.specs.Entries.{Edited, Queried, Applied, Fed, check, edit, query, apply, feed, apply-refused, apply-read, fed, rows-into}
-use Rattle.serve.specs.Answers.{number-of, Answers, Serves}
+use Rattle.serve.specs.Answers.{number-of, Serves}
 use Rattle.serve.specs.declared.Answer.{Answer}
 use Rattle.record.specs.Applying.{Numbered}
 use Rattle.hindraloha.proofs.Guarded.{refused-whole, answered}
 
 module _ (ws : List ℕ) (n : ℕ) (is : n ≡ check ws) (h : n ≡ 0 → ⊥) where
-  not-passed : check ws ≡ 0 → ⊥
-  not-passed e = h (is ∙ e)
-
   pub edit-refused : (request : Request) → _≡_ {A = Edited} (record { number = n; words = ws }) (edit request ws)
   unfolding edit
   edit-refused request =
-      rw is
-      (refused-whole ws (λ m. record { number = m; words = ws })
+      refused-whole ws n is h (λ m. record { number = m; words = ws })
       (λ c p. record { number = serve c request p .number; words = words c (serve c request p .left) })
-      not-passed)
 
   pub query-refused : (d : End) (a b : ℕ) (run : List ℕ) → _≡_ {A = Queried} (record { number = n; count = 0; run = run }) (query d a b ws run)
   unfolding query
   query-refused d a b run =
-      rw is
-      (refused-whole ws (λ m. record { number = m; count = 0; run = run })
+      refused-whole ws n is h (λ m. record { number = m; count = 0; run = run })
       (λ c p.
       record {
         number = serve c (querying d a b) p .number;
         count = length (serve c (querying d a b) p .hits);
         run = rows-into (serve c (querying d a b) p .hits) run;
       })
-      not-passed)
 
   pub apply-refused-whole : (bytes run : List ℕ) → apply-refused n ws run ≡ apply bytes ws run
   unfolding apply
   apply-refused-whole bytes run =
-      rw is (refused-whole ws (λ m. apply-refused m ws run) (λ c p. apply-read (reads kinds bytes) c p run) not-passed)
+      refused-whole ws n is h (λ m. apply-refused m ws run) (λ c p. apply-read (reads kinds bytes) c p run)
 
   pub feed-refused : (bytes : List ℕ) → _≡_ {A = Fed} (record { number = n; records = 0; taken = 0; words = ws }) (feed bytes ws)
   unfolding feed
   feed-refused bytes =
-      rw is
-      (refused-whole ws (λ m. record { number = m; records = 0; taken = 0; words = ws })
+      refused-whole ws n is h (λ m. record { number = m; records = 0; taken = 0; words = ws })
       (λ c p. fed c (feed-turns (serve c) (length bytes) bytes p))
-      not-passed)
 
 module _ {ws : List ℕ} {p : Pool} (h : Holds ws p) where
   pub edit-served : {after : List ℕ} {n : ℕ} (request : Request) → Numbered ws after n (serve (capacity (length ws)) request p)

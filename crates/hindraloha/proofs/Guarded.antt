@@ -3,7 +3,7 @@ use Prim.Native.Nat.{ℕ}
 use mathlib.Core.Bool.{Bool, true, false, cond}
 use mathlib.Core.List.{List}
 use mathlib.Core.Option.{Option, none, some}
-use mathlib.Core.Path.{_≡_, refl, sym, ap, _∙_}
+use mathlib.Core.Path.{_≡_, refl, ap, _∙_}
 use native.Mathlib.Omega.{arith}
 use lib.ListN.{length}
 use Rattle.rules.specs.Pool.{Pool, Holds, capacity, right-length}
@@ -12,14 +12,13 @@ use Rattle.rules.specs.Entries.{guarded, sound-only, check}
 use Rattle.rules.proofs.Held.{held-holds, holds-held}
 
 -- a pool that the check refuses is refused with its number
-pub refused-whole : {A : Type 0} (ws : List ℕ) (refused : ℕ → A) (answer : ℕ → Pool → A) → (check ws ≡ 0 → ⊥)
-    → refused (check ws) ≡ guarded ws refused answer
+pub refused-whole : {A : Type 0} (ws : List ℕ) (n : ℕ) → n ≡ check ws → (n ≡ 0 → ⊥)
+    → (refused : ℕ → A) (answer : ℕ → Pool → A)
+    → refused n ≡ guarded ws refused answer
 unfolding check
-refused-whole ws refused answer h = go (right-length (length ws)) (held ws) h
+refused-whole ws n is h refused answer =
+    ap refused is ∙ go (right-length (length ws)) (held ws) (λ e. h (is ∙ e))
   where
-    c : ℕ
-    c = capacity (length ws)
-
     go : (r : Bool) (o : Option Pool)
         → (cond r (sound-only o (λ n. n) (λ p. 0)) 10 ≡ 0 → ⊥)
         → refused (cond r (sound-only o (λ n. n) (λ p. 0)) 10) ≡ cond r (sound-only o refused (answer (capacity (length ws)))) (refused 10)

@@ -33,7 +33,7 @@ enum Turn {
 }
 
 // A record that was refused: nothing taken, no hits.
-pub fn refused(number: u64) -> Applied
+fn refused(number: u64) -> Applied
     ensures { λ r. ⌜ (r .number ≡ number) × (r .taken ≡ 0) × (r .hits ≡ 0) ⌝ }
 {
     Applied {

@@ -2,15 +2,13 @@
 use Prim.Native.Nat.{ℕ}
 use mathlib.Core.List.{List, [], _∷_}
 use mathlib.Core.Option.{Option, none, some}
-use mathlib.Core.Path.{_≡_, refl, ap, _∙_}
-use lib.ListN.{length}
+use mathlib.Core.Path.{_≡_, refl, _∙_}
 use Rattle.rules.specs.Range.{Range, End, range-to}
 use Rattle.rules.specs.Tree.{Entry, Tree, leaf, node}
 use Rattle.rules.specs.Balance.{Side}
 use Rattle.rules.specs.Edit.{find}
 use Rattle.rules.specs.Pool.{Pool}
-use Rattle.rules.specs.Request.{Served, inserting, deleting, deleting-end, serve, insert-into, delete-from, delete-end-from, with-range}
-use Rattle.rules.specs.Entries.{rows-into}
+use Rattle.rules.specs.Request.{Served, inserting, deleting, serve, insert-into, delete-from, delete-end-from, with-range}
 use Rattle.serve.specs.Answers.{Answers, Serves}
 use Rattle.serve.specs.declared.Answer.{Answer}
 

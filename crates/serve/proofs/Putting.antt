@@ -1,40 +1,40 @@
 -- An insert into a sound pool: what its calls are given, and that the answer is the rules'. Assumes nothing.
-use Prim.Native.Nat.{ℕ, suc, _+_, _≤_, _<_}
-use mathlib.Core.Bool.{Bool, true, false}
+use Prim.Native.Nat.{ℕ, _+_, _≤_, _<_}
+use mathlib.Core.Bool.{true, false}
 use mathlib.Core.List.{List, [], _∷_}
 use mathlib.Core.Option.{Option, none, some}
-use mathlib.Core.Path.{_≡_, refl, sym, ap, _∙_}
+use mathlib.Core.Path.{_≡_, refl, sym, _∙_}
 use native.Mathlib.Omega.{arith}
 use lib.ListN.{length, getD, take, drop}
-use Rattle.rules.specs.Limits.{most-slots, half}
-use Rattle.rules.specs.Range.{Range, range, excluded, range-to}
-use Rattle.rules.specs.Tree.{Entry, Tree, size, entries}
+use Rattle.rules.specs.Limits.{header-words, most-slots, half}
+use Rattle.rules.specs.Range.{Range, excluded, range-to}
+use Rattle.rules.specs.Tree.{Entry, Tree}
 use Rattle.rules.specs.Edit.{find, insert}
-use Rattle.rules.specs.Pool.{Pool, pool, words, capacity, good, times, slots, first, Holds}
+use Rattle.rules.specs.Pool.{Pool, pool, capacity, good, times, slots, first, Holds}
 use Rattle.rules.specs.Request.{inserting, serve, insert-into}
-use Rattle.rules.specs.Stored.{slot-word, Within, Chained, goes-on, Rooted, Left}
+use Rattle.rules.specs.Stored.{slot-word, Within, Chained, goes-on}
 use Rattle.rules.proofs.Times.{times-front, times-cons}
-use Rattle.rules.proofs.Once.{claims, all-slots}
+use Rattle.rules.proofs.Once.{all-slots}
 use Rattle.rules.proofs.Lengths.{roomy}
 use Rattle.rules.proofs.Searching.{adds-insert, adds-size}
 use Rattle.rules.proofs.Serving.{good-serve}
-use Rattle.rules.proofs.Stored.{Laid, holds-laid, holds-rooted}
+use Rattle.rules.proofs.Stored.{holds-laid, holds-rooted}
 use Rattle.node.specs.Node.{entry}
-use Rattle.pool.specs.Around.{Claimed}
+use Rattle.pool.specs.Around.{Header, Claimed}
 use Rattle.pool.proofs.Chains.{chained-kept}
 use Rattle.tree.specs.Edits.{is-some, Inserting, Inserts}
 use Rattle.tree.specs.declared.Inserted.the-variants.{At, There as Stays}
 use Rattle.tree.proofs.Inserting.{times-inserted}
 use Rattle.serve.specs.Answers.{Answers}
 use Rattle.serve.specs.declared.Answer.the-variants.{Done, There, Full}
-use Rattle.serve.proofs.Laying.{Header, same-words, header-kept, left-words, claimed-once, in-order, header-there}
+use Rattle.serve.proofs.Laying.{same-words, header-kept, left-words, claimed-once, in-order, header-there}
 
 -- the first free slot is a slot that no entry has
 free-slot : {ws : List ℕ} {t : Tree} {s : ℕ} {rest : List ℕ} → Holds ws (pool t (s ∷ rest))
-    → Within (drop 4 ws) s × (times s (slots t) ≡ 0) × (slot-word (drop 4 ws) s 4 ≡ first rest)
+    → Within (drop header-words ws) s × (times s (slots t) ≡ 0) × (slot-word (drop header-words ws) s 4 ≡ first rest)
 free-slot {ws} {t} {s} {rest} h = go (holds-laid h .chained)
   where
-    go : Chained (drop 4 ws) (s ∷ rest) → Within (drop 4 ws) s × (times s (slots t) ≡ 0) × (slot-word (drop 4 ws) s 4 ≡ first rest)
+    go : Chained (drop header-words ws) (s ∷ rest) → Within (drop header-words ws) s × (times s (slots t) ≡ 0) × (slot-word (drop header-words ws) s 4 ≡ first rest)
     go (goes-on f chain) =
         (f .at, omega (arith, claimed-once h s, times-front s rest), f .links-word)
 
@@ -49,21 +49,21 @@ module _ {ws : List ℕ} {t : Tree} where
 
 -- the same for any chain: what is asked of the first free slot
 pub inserting-first : {ws : List ℕ} (p : Pool) → Holds ws p → (getD ws 1 0 ≡ 0 → ⊥)
-    → Inserting (drop 4 ws) (getD ws 0 0) (getD ws 1 0) (p .tree)
+    → Inserting (drop header-words ws) (getD ws 0 0) (getD ws 1 0) (p .tree)
 inserting-first {ws} p h there = go (p .free) h
   where
-    go : (free : List ℕ) → Holds ws (pool (p .tree) free) → Inserting (drop 4 ws) (getD ws 0 0) (getD ws 1 0) (p .tree)
+    go : (free : List ℕ) → Holds ws (pool (p .tree) free) → Inserting (drop header-words ws) (getD ws 0 0) (getD ws 1 0) (p .tree)
     go [] h = absurd (there (holds-laid h .head .free-word))
     go (s ∷ rest) h =
         let is = holds-laid h .head .free-word in
         let slot = free-slot h in
         record { rooted = holds-rooted h; within = rw is (slot .0); absent = rw is (slot .1) }
 
-pub free-within : {ws : List ℕ} (p : Pool) → Holds ws p → (getD ws 1 0 ≡ 0 → ⊥) → Within (drop 4 ws) (getD ws 1 0)
+pub free-within : {ws : List ℕ} (p : Pool) → Holds ws p → (getD ws 1 0 ≡ 0 → ⊥) → Within (drop header-words ws) (getD ws 1 0)
 free-within p h there = inserting-first p h there .within
 
 -- there is room to count one more
-pub few-live : {ws : List ℕ} (p : Pool) → Holds ws p → getD ws 2 0 ≤ most-slots
+few-live : {ws : List ℕ} (p : Pool) → Holds ws p → getD ws 2 0 ≤ most-slots
 few-live {ws} p h =
     let is = holds-laid h .head .live-word in
     let room = roomy (length ws) (h .right) in
@@ -91,22 +91,22 @@ answers-full {ws} p k v h e new = go (find k (p .tree)) (p .free) new (full (p .
 
 -- the tree's own insert found the range: nothing was written
 pub answers-kept : {ws after : List ℕ} (p : Pool) (k : Range) (v : ℕ) → Holds ws p → (getD ws 1 0 ≡ 0 → ⊥)
-    → take 4 after ≡ take 4 ws
-    → ((t : Tree) → Inserting (drop 4 ws) (getD ws 0 0) (getD ws 1 0) t
-    → Inserts Stays (drop 4 ws) (drop 4 after) (entry (getD ws 1 0) (k .start) (k .end) v) t)
+    → take header-words after ≡ take header-words ws
+    → ((t : Tree) → Inserting (drop header-words ws) (getD ws 0 0) (getD ws 1 0) t
+    → Inserts Stays (drop header-words ws) (drop header-words after) (entry (getD ws 1 0) (k .start) (k .end) v) t)
     → Answers ws after There (insert-into (find k (p .tree)) (p .free) k v p)
 answers-kept {ws} {after} p k v h there head done =
     let told = done (p .tree) (inserting-first p h there) in
     rw (same-words ws after head (told .1)) (answers-there k v h (rw (told .0 .1) refl))
 
 -- the entry went in: its slot is off the chain, and the header says so
-pub answers-put : {ws after : List ℕ} {top : ℕ} (between : List ℕ) (p : Pool) (k : Range) (v : ℕ) → Holds ws p → (getD ws 1 0 ≡ 0 → ⊥)
-    → take 4 between ≡ take 4 ws
-    → ((t : Tree) → Inserting (drop 4 ws) (getD ws 0 0) (getD ws 1 0) t
-    → Inserts (At top) (drop 4 ws) (drop 4 between) (entry (getD ws 1 0) (k .start) (k .end) v) t)
+answers-put : {ws after : List ℕ} {top : ℕ} (between : List ℕ) (p : Pool) (k : Range) (v : ℕ) → Holds ws p → (getD ws 1 0 ≡ 0 → ⊥)
+    → take header-words between ≡ take header-words ws
+    → ((t : Tree) → Inserting (drop header-words ws) (getD ws 0 0) (getD ws 1 0) t
+    → Inserts (At top) (drop header-words ws) (drop header-words between) (entry (getD ws 1 0) (k .start) (k .end) v) t)
     → length after ≡ length ws
-    → drop 4 after ≡ drop 4 between
-    → Header after top (slot-word (drop 4 ws) (getD ws 1 0) 4) (getD ws 2 0 + 1)
+    → drop header-words after ≡ drop header-words between
+    → Header after top (slot-word (drop header-words ws) (getD ws 1 0) 4) (getD ws 2 0 + 1) 0
     → Answers ws after Done (insert-into (find k (p .tree)) (p .free) k v p)
 unfolding serve range-to
 answers-put {ws} {after} {top} between p k v h there head done long same header =
@@ -114,7 +114,7 @@ answers-put {ws} {after} {top} between p k v h there head done long same header 
     rw (told .0) (go (p .free) h told)
   where
     go : (free : List ℕ) → Holds ws (pool (p .tree) free)
-        → Inserts (At top) (drop 4 ws) (drop 4 between) (entry (getD ws 1 0) (k .start) (k .end) v) (p .tree)
+        → Inserts (At top) (drop header-words ws) (drop header-words between) (entry (getD ws 1 0) (k .start) (k .end) v) (p .tree)
         → Answers ws after Done (insert-into none free k v p)
     go [] h told = absurd (there (holds-laid h .head .free-word))
     go (s ∷ rest) h told =
@@ -138,7 +138,7 @@ answers-put {ws} {after} {top} between p k v h there head done long same header 
                       root-word = header .root-word ∙ sym (stored .rooted .rooted);
                       free-word = header .free-word ∙ rw is (slot .2);
                       live-word = let live = holds-laid h .head .live-word in header .live-word ∙ omega arith;
-                      zero-word = header .zero-word;
+                      zero-word = header .last-word;
                     };
                 stored = rw same (stored .rooted .stored);
                 chained =
@@ -150,17 +150,17 @@ answers-put {ws} {after} {top} between p k v h there head done long same header 
               });
         }
       where
-        goes : Chained (drop 4 ws) (s ∷ rest) → Chained (drop 4 ws) rest
+        goes : Chained (drop header-words ws) (s ∷ rest) → Chained (drop header-words ws) rest
         goes (goes-on f chain) = chain
 
 -- the same, as the calls leave it
 pub answers-claimed : {ws after : List ℕ} {top next : ℕ} (between : List ℕ) (p : Pool) (k : Range) (v : ℕ) → Holds ws p
     → (getD ws 1 0 ≡ 0 → ⊥)
-    → take 4 between ≡ take 4 ws
-    → ((t : Tree) → Inserting (drop 4 ws) (getD ws 0 0) (getD ws 1 0) t
-    → Inserts (At top) (drop 4 ws) (drop 4 between) (entry (getD ws 1 0) (k .start) (k .end) v) t)
+    → take header-words between ≡ take header-words ws
+    → ((t : Tree) → Inserting (drop header-words ws) (getD ws 0 0) (getD ws 1 0) t
+    → Inserts (At top) (drop header-words ws) (drop header-words between) (entry (getD ws 1 0) (k .start) (k .end) v) t)
     → length between ≡ length ws
-    → next ≡ slot-word (drop 4 ws) (getD ws 1 0) 4
+    → next ≡ slot-word (drop header-words ws) (getD ws 1 0) 4
     → Claimed between after top next
     → Answers ws after Done (insert-into (find k (p .tree)) (p .free) k v p)
 answers-claimed {ws} between p k v h there head done long next-is claimed =
@@ -169,12 +169,12 @@ answers-claimed {ws} between p k v h there head done long next-is claimed =
       root-word = claimed .header .root-word;
       free-word = claimed .header .free-word ∙ next-is;
       live-word = let live = header-kept 2 ws between (omega arith) head in claimed .header .live-word ∙ omega arith;
-      zero-word = claimed .header .last-word ∙ header-kept 3 ws between (omega arith) head ∙ holds-laid h .head .zero-word;
+      last-word = claimed .header .last-word ∙ header-kept 3 ws between (omega arith) head ∙ holds-laid h .head .zero-word;
     })
 
 -- what a claim is given
-pub claimable : {ws : List ℕ} (between : List ℕ) (p : Pool) → Holds ws p → take 4 between ≡ take 4 ws → length between ≡ length ws
-    → (4 ≤ length between) × (getD between 2 0 < half)
+pub claimable : {ws : List ℕ} (between : List ℕ) (p : Pool) → Holds ws p → take header-words between ≡ take header-words ws → length between ≡ length ws
+    → (header-words ≤ length between) × (getD between 2 0 < half)
 claimable {ws} between p h head long =
     let live = header-kept 2 ws between (omega arith) head in
     let few = few-live p h in

@@ -1,30 +1,29 @@
 -- A removal from a sound pool: what its calls are given, and that the answer is the rules'. Assumes nothing.
-use Prim.Native.Nat.{ℕ, suc, _+_, _-_, _*_, _≤_, _<_}
+use Prim.Native.Nat.{ℕ, suc, _+_, _*_, _≤_}
 use mathlib.Core.Bool.{true}
 use mathlib.Core.List.{List, [], _∷_}
-use mathlib.Core.Option.{Option, none, some}
-use mathlib.Core.Path.{_≡_, refl, sym, ap, subst, _∙_}
+use mathlib.Core.Option.{some}
+use mathlib.Core.Path.{_≡_, refl, sym, _∙_}
 use native.Mathlib.Omega.{arith}
 use lib.ListN.{length, getD, take, drop, length-drop}
 use Rattle.rules.specs.Limits.{header-words, slot-words}
 use Rattle.rules.specs.Range.{Range, excluded, range-to}
 use Rattle.rules.specs.Tree.{Entry, Tree, leaf, node, levels, size}
 use Rattle.rules.specs.Balance.{Side}
-use Rattle.rules.specs.Edit.{find, delete, shed, outermost}
-use Rattle.rules.specs.Pool.{Pool, pool, words, capacity, good, times, slots, first, Holds}
+use Rattle.rules.specs.Edit.{find, delete, shed}
+use Rattle.rules.specs.Pool.{Pool, pool, words, capacity, good, times, slots, Holds}
 use Rattle.rules.specs.Request.{deleting, deleting-end, serve, delete-from, delete-end-from}
-use Rattle.rules.specs.Stored.{slot-word, Within, Chained, goes-on, Kept, Rooted, Left}
+use Rattle.rules.specs.Stored.{goes-on, Rooted, Left}
 use Rattle.rules.proofs.Times.{times-one}
 use Rattle.rules.proofs.Searching.{adds-delete, adds-shed, adds-size}
 use Rattle.rules.proofs.Serving.{good-serve}
-use Rattle.rules.proofs.Stored.{Laid, holds-laid, holds-rooted}
+use Rattle.rules.proofs.Stored.{holds-laid, holds-rooted}
 use Rattle.node.proofs.Few.{inside}
-use Rattle.node.proofs.Trees.{kept-trans, stored-kept}
+use Rattle.node.proofs.Trees.{stored-kept}
 use Rattle.pool.specs.Around.{Released}
 use Rattle.pool.proofs.Chains.{chained-kept}
-use Rattle.tree.specs.Edits.{Deletes, Sheds, end-slot}
-use Rattle.tree.specs.declared.Deleted.the-variants.{Gone, Absent as Stays}
-use Rattle.tree.specs.declared.Removed.{Removed}
+use Rattle.tree.specs.Edits.{Deletes, end-slot}
+use Rattle.tree.specs.declared.Deleted.the-variants.{Absent as Stays}
 use Rattle.tree.proofs.Hanging.{not-node}
 use Rattle.tree.proofs.Deleting.{times-deleted}
 use Rattle.tree.proofs.Shedding.{times-ended}
@@ -34,7 +33,7 @@ use Rattle.serve.proofs.Laying.{same-words, header-kept, left-words, cl
 
 -- A tree was left without one slot, which is then released: the words are those of the smaller pool.
 module _ {ws between after : List ℕ} {top slot : ℕ} {p : Pool} {u : Tree} (h : Holds ws p)
-    (head : take 4 between ≡ take 4 ws) (smaller : Left (drop 4 ws) (drop 4 between) top u)
+    (head : take header-words between ≡ take header-words ws) (smaller : Left (drop header-words ws) (drop header-words between) top u)
     (counts : (y : ℕ) → times y (slots (p .tree)) ≡ times y (slot ∷ []) + times y (slots u))
     (one-less : size (p .tree) ≡ suc (size u)) (long : length between ≡ length ws) (released : Released between after top slot)
     (is-good : good (capacity (length ws)) (pool u (slot ∷ p .free)) ≡ true) where
@@ -64,8 +63,8 @@ module _ {ws between after : List ℕ} {top slot : ℕ} {p : Pool} {u : Tree} (h
       })
 
 -- what a release is given: the slot is one of these words, and there is one entry to count off
-module _ {ws : List ℕ} (between : List ℕ) {top slot : ℕ} {p : Pool} {u : Tree} (h : Holds ws p) (head : take 4 between ≡ take 4 ws)
-    (smaller : Left (drop 4 ws) (drop 4 between) top u)
+module _ {ws : List ℕ} (between : List ℕ) {top slot : ℕ} {p : Pool} {u : Tree} (h : Holds ws p) (head : take header-words between ≡ take header-words ws)
+    (smaller : Left (drop header-words ws) (drop header-words between) top u)
     (counts : (y : ℕ) → times y (slots (p .tree)) ≡ times y (slot ∷ []) + times y (slots u))
     (one-less : size (p .tree) ≡ suc (size u)) where
   pub releasable : (1 ≤ slot) × (header-words + slot-words * slot ≤ length between) × (1 ≤ getD between 2 0)
@@ -74,11 +73,11 @@ module _ {ws : List ℕ} (between : List ℕ) {top slot : ℕ} {p : Pool} {u : T
       let is = header-kept 2 ws between (omega arith) head ∙ laid .head .live-word in
       let long = smaller .kept .long in
       let there = inside (laid .stored) .slot-in slot (omega (arith, counts slot, times-one slot)) in
-      (there .0, omega (arith, length-drop 4 between, length-drop 4 ws), omega arith)
+      (there .0, omega (arith, length-drop header-words between, length-drop header-words ws), omega arith)
 
 -- a delete of an absent range
-pub answers-absent : {ws after : List ℕ} {p : Pool} (k : Range) → Holds ws p → take 4 after ≡ take 4 ws
-    → ((t : Tree) → Rooted (drop 4 ws) (getD ws 0 0) t → Deletes Stays (drop 4 ws) (drop 4 after) k t)
+pub answers-absent : {ws after : List ℕ} {p : Pool} (k : Range) → Holds ws p → take header-words after ≡ take header-words ws
+    → ((t : Tree) → Rooted (drop header-words ws) (getD ws 0 0) t → Deletes Stays (drop header-words ws) (drop header-words after) k t)
     → Answers ws after Absent (delete-from (find k (p .tree)) k p)
 answers-absent {ws} {after} {p} k h head done =
     let told = done (p .tree) (holds-rooted h) in
@@ -114,7 +113,7 @@ pub answers-no-end : {ws : List ℕ} (s : Side) (p : Pool) → Holds ws p → ge
     → Answers ws ws Absent (delete-end-from s (p .tree) p)
 answers-no-end {ws} s p h empty = go (p .tree) (holds-rooted h)
   where
-    go : (t : Tree) → Rooted (drop 4 ws) (getD ws 0 0) t → Answers ws ws Absent (delete-end-from s t p)
+    go : (t : Tree) → Rooted (drop header-words ws) (getD ws 0 0) t → Answers ws ws Absent (delete-end-from s t p)
     go leaf r = record { number-is = refl; words-are = h .all-words }
     go (node e l r) t = absurd (not-node t empty)
 

@@ -8,8 +8,9 @@ use tree::Deleted;
 use tree::Inserted;
 use tree::Removed;
 ghost use mathlib.Core.Path.{_≡_};
-ghost use Prim.Native.Nat.{_≤_, _+_};
-ghost use lib.ListN.{length, set, take, drop};
+ghost use Prim.Native.Nat.{_≤_};
+ghost use lib.ListN.{length, take, drop};
+ghost use Rattle.rules.specs.Limits.{header-words};
 ghost use Rattle.rules.specs.Tree.{Tree, levels};
 ghost use Rattle.rules.specs.Stored.{slot-word, Within, Rooted};
 ghost use Rattle.rules.specs.Pool.{Pool, Holds, capacity};
@@ -55,43 +56,43 @@ pub fn number_of(answer: Answer) -> u64
 
 // `tree::insert` into the slots, which are the words after the header.
 fn insert_slot(words: &mut [u64], root: u64, key: Interval, value: u64, new: u64) -> Inserted
-    requires { ⌜ (4 ≤ length (now words)) × ((t : Tree) × Inserting (drop 4 (now words)) root new t) ⌝ }
-    ensures kept { λ _. ⌜ take 4 (now (words .exit)) ≡ take 4 (now (words .entry)) ⌝ }
-    ensures done { λ r. ⌜ ((t : Tree) → Inserting (drop 4 (now (words .entry))) root new t → Inserts r (drop 4 (now (words .entry))) (drop 4 (now (words .exit))) (entry new (key .start) (key .end) value) t) ⌝ }
+    requires { ⌜ (header-words ≤ length (now words)) × ((t : Tree) × Inserting (drop header-words (now words)) root new t) ⌝ }
+    ensures kept { λ _. ⌜ take header-words (now (words .exit)) ≡ take header-words (now (words .entry)) ⌝ }
+    ensures done { λ r. ⌜ ((t : Tree) → Inserting (drop header-words (now (words .entry))) root new t → Inserts r (drop header-words (now (words .entry))) (drop header-words (now (words .exit))) (entry new (key .start) (key .end) value) t) ⌝ }
 {
     tree::insert(&mut words[4..], root, key, value, new)
 }
 
 // `tree::delete` from the slots.
 fn delete_slot(words: &mut [u64], root: u64, key: Interval) -> Deleted
-    requires { ⌜ (4 ≤ length (now words)) × ((t : Tree) × Rooted (drop 4 (now words)) root t) ⌝ }
-    ensures kept { λ _. ⌜ take 4 (now (words .exit)) ≡ take 4 (now (words .entry)) ⌝ }
-    ensures done { λ r. ⌜ ((t : Tree) → Rooted (drop 4 (now (words .entry))) root t → Deletes r (drop 4 (now (words .entry))) (drop 4 (now (words .exit))) (range-of key) t) ⌝ }
+    requires { ⌜ (header-words ≤ length (now words)) × ((t : Tree) × Rooted (drop header-words (now words)) root t) ⌝ }
+    ensures kept { λ _. ⌜ take header-words (now (words .exit)) ≡ take header-words (now (words .entry)) ⌝ }
+    ensures done { λ r. ⌜ ((t : Tree) → Rooted (drop header-words (now (words .entry))) root t → Deletes r (drop header-words (now (words .entry))) (drop header-words (now (words .exit))) (range-of key) t) ⌝ }
 {
     tree::delete(&mut words[4..], root, key)
 }
 
 // `tree::delete_end` from the slots.
 fn delete_end_slot(words: &mut [u64], side: Side, root: u64) -> Removed
-    requires { ⌜ (4 ≤ length (now words)) × ((t : Tree) × Rooted (drop 4 (now words)) root t × (1 ≤ levels t)) ⌝ }
-    ensures kept { λ _. ⌜ take 4 (now (words .exit)) ≡ take 4 (now (words .entry)) ⌝ }
-    ensures done { λ r. ⌜ ((t : Tree) → Rooted (drop 4 (now (words .entry))) root t → 1 ≤ levels t → Sheds (side-of side) r (drop 4 (now (words .entry))) (drop 4 (now (words .exit))) t) ⌝ }
+    requires { ⌜ (header-words ≤ length (now words)) × ((t : Tree) × Rooted (drop header-words (now words)) root t × (1 ≤ levels t)) ⌝ }
+    ensures kept { λ _. ⌜ take header-words (now (words .exit)) ≡ take header-words (now (words .entry)) ⌝ }
+    ensures done { λ r. ⌜ ((t : Tree) → Rooted (drop header-words (now (words .entry))) root t → 1 ≤ levels t → Sheds (side-of side) r (drop header-words (now (words .entry))) (drop header-words (now (words .exit))) t) ⌝ }
 {
     tree::delete_end(&mut words[4..], side, root)
 }
 
 // Whether the tree in the slots has the range.
 fn contains_slot(words: &[u64], root: u64, key: Interval) -> bool
-    requires { ⌜ (4 ≤ length (now words)) × ((t : Tree) × Rooted (drop 4 (now words)) root t) ⌝ }
-    ensures { λ r. ⌜ ((t : Tree) → Rooted (drop 4 (now (words .entry))) root t → r ≡ is-some (find (range-of key) t)) ⌝ }
+    requires { ⌜ (header-words ≤ length (now words)) × ((t : Tree) × Rooted (drop header-words (now words)) root t) ⌝ }
+    ensures { λ r. ⌜ ((t : Tree) → Rooted (drop header-words (now (words .entry))) root t → r ≡ is-some (find (range-of key) t)) ⌝ }
 {
     tree::contains(&words[4..], root, key)
 }
 
 // The slot after a free slot in the chain, 0 for none.
 fn next_free(words: &[u64], slot: u64) -> u64
-    requires { ⌜ (4 ≤ length (now words)) × Within (drop 4 (now words)) slot ⌝ }
-    ensures { λ r. ⌜ r ≡ slot-word (drop 4 (now (words .entry))) slot 4 ⌝ }
+    requires { ⌜ (header-words ≤ length (now words)) × Within (drop header-words (now words)) slot ⌝ }
+    ensures { λ r. ⌜ r ≡ slot-word (drop header-words (now (words .entry))) slot 4 ⌝ }
 {
     node::word(&words[4..], slot, 4)
 }
@@ -135,7 +136,7 @@ fn delete(words: &mut [u64], key: Interval) -> Answer
 }
 
 // Takes the outermost entry on the side out of the pool.
-pub fn delete_end(words: &mut [u64], side: Side) -> Answer
+fn delete_end(words: &mut [u64], side: Side) -> Answer
     requires { ⌜ ((p : Pool) × Holds (now words) p) ⌝ }
     ensures { λ r. ⌜ ((p : Pool) → Holds (now (words .entry)) p → Answers (now (words .entry)) (now (words .exit)) r (delete-end-from (side-of side) (p .tree) p)) ⌝ }
 {
@@ -168,7 +169,7 @@ fn range_to(bound: End, start: u64, end: u64) -> Included
 }
 
 // An insert of a range with its end excluded or included.
-pub fn insert_to(words: &mut [u64], bound: End, start: u64, end: u64, value: u64) -> Answer
+fn insert_to(words: &mut [u64], bound: End, start: u64, end: u64, value: u64) -> Answer
     requires { ⌜ ((p : Pool) × Holds (now words) p) ⌝ }
     ensures { λ r. ⌜ ((p : Pool) → Holds (now (words .entry)) p → Answers (now (words .entry)) (now (words .exit)) r (serve (capacity (length (now (words .entry)))) (inserting (end-of bound) start end value) p)) ⌝ }
 {
@@ -179,7 +180,7 @@ pub fn insert_to(words: &mut [u64], bound: End, start: u64, end: u64, value: u64
 }
 
 // A delete of a range with its end excluded or included.
-pub fn delete_to(words: &mut [u64], bound: End, start: u64, end: u64) -> Answer
+fn delete_to(words: &mut [u64], bound: End, start: u64, end: u64) -> Answer
     requires { ⌜ ((p : Pool) × Holds (now words) p) ⌝ }
     ensures { λ r. ⌜ ((p : Pool) → Holds (now (words .entry)) p → Answers (now (words .entry)) (now (words .exit)) r (serve (capacity (length (now (words .entry)))) (deleting (end-of bound) start end) p)) ⌝ }
 {
@@ -207,7 +208,7 @@ pub fn query_to(words: &[u64], bound: End, start: u64, end: u64, rows: &mut [u64
 }
 
 // A clear.
-pub fn clear(words: &mut [u64]) -> Answer
+fn clear(words: &mut [u64]) -> Answer
     requires { ⌜ ((p : Pool) × Holds (now words) p) ⌝ }
     ensures { λ r. ⌜ ((p : Pool) → Holds (now (words .entry)) p → Answers (now (words .entry)) (now (words .exit)) r (serve (capacity (length (now (words .entry)))) clearing p)) ⌝ }
 {

@@ -65,10 +65,7 @@ add-records c =
     let turn = d .before .before .before .before in
     let inv = turn .loop .inv in
     let start = turn .before .before .before in
-    let bytes = start .args .bytes .now in
-    let at = turn .loop .at in
     let more = d .before .before .before .loop-test .taken in
-    let some : 1 ≤ length (drop at bytes) = rw length-drop (omega arith) in
     omega (arith, start .good)
 
 loop-less : tie.Need-loop-less Inv-loop μ-loop
@@ -116,11 +113,6 @@ same-length c =
     let d = c .before .before .before .before .before in
     let turn = d .before .before .before .before in
     let inv = turn .loop .inv in
-    let start = turn .before .before .before in
-    let bytes = start .args .bytes .now in
-    let at = turn .loop .at in
-    let more = d .before .before .before .loop-test .taken in
-    let some : 1 ≤ length (drop at bytes) = rw length-drop (omega arith) in
     d .feed-one .kept .0 ∙ inv .0
 
 returns : tie.Need-returns Inv-loop μ-loop

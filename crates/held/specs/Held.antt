@@ -1,0 +1,22 @@
+-- What a walk that keeps hold of its pool promises: which pending trees of the rules its stack holds, and what it hit.
+use mathlib.Core.List.{List, [], _∷_}
+use mathlib.Core.Option.{Option, none, some}
+use Prim.Native.Nat.{ℕ}
+use Rattle.rules.specs.Tree.{Entry}
+use Rattle.rules.specs.Query.{Pending, Step}
+use Rattle.walk.specs.Walk.{Pends, Hit}
+use Rattle.held.specs.declared.Stack.{Stack}
+
+-- the stack holds the pending trees
+abbrev pub Waiting : List ℕ → Stack → Pending → Type 0
+Waiting ss s p = Pends ss (s .nodes) (s .pending) p
+
+-- the stack holds the trees pending after the step, and says what the step hit
+pub record Turned (ss : List ℕ) (s : Stack) (after : Step) : Type 0 where
+  pub waits : Waiting ss s (after .pending)
+  pub hits : Hit ss (s .hit) (after .hit)
+
+-- the first of the hits, if there is one
+abbrev pub first-of : List Entry → Option Entry
+first-of [] = none
+first-of (e ∷ es) = some e

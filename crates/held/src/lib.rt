@@ -1,6 +1,7 @@
-// The walk that keeps hold of the pool it reads, so that no edit is possible during it. The borrow checker covers no
-// function over such a struct, so the functions over `Walk` are thin and proved by hand; the work is in `begin` and
-// `onward`, which are covered.
+// The late forms of the query. A walk that keeps hold of the pool it reads, so that no edit is possible during it; and a
+// query that fills a lent list of hit records. The borrow checker covers no function over a struct that holds a slice, nor
+// over a slice of structs, so `new`, `next`, `first`, `fill` and `query` are thin and proved by hand; the work is in the
+// others, which are covered.
 use interval::Interval;
 use node::word;
 ghost use mathlib.Core.Path.{_≡_};
@@ -34,7 +35,7 @@ pub struct Walk<'a> {
 }
 
 // The stack at the start: only the root is pending, if there is one.
-pub fn begin(slots: &[u64], root: u64) -> Stack
+fn begin(slots: &[u64], root: u64) -> Stack
     requires { ⌜ ((t : Tree) × Walkable (now slots) root t) ⌝ }
     ensures { λ s. ⌜ ((t : Tree) → Walkable (now (slots .entry)) root t → Waiting (now (slots .entry)) s (at-start t)) ⌝ }
 {
@@ -48,7 +49,7 @@ pub fn begin(slots: &[u64], root: u64) -> Stack
 }
 
 // The stack after the next hit.
-pub fn onward(slots: &[u64], query: Interval, stack: Stack) -> Stack
+fn onward(slots: &[u64], query: Interval, stack: Stack) -> Stack
     requires { ⌜ ((p : Pending) × Waiting (now slots) stack p) ⌝ }
     ensures { λ s. ⌜ ((p : Pending) → Waiting (now (slots .entry)) stack p → Turned (now (slots .entry)) s (next (range-of query) p)) ⌝ }
 {
@@ -105,7 +106,7 @@ pub struct Hit {
 
 // A query on its way: how many nodes are pending, the latest hit's record and whether there is one, how many hits came
 // before it, how many records there is room for, and whether the latest is to be written.
-pub struct Filling {
+struct Filling {
     pub pending: usize,
     pub row: Hit,
     pub there: bool,
@@ -159,7 +160,7 @@ fn seek(
 }
 
 // A query's stack and its first hit.
-pub struct Begun {
+struct Begun {
     pub nodes: [u64; ROOM],
     pub first: Filling,
 }

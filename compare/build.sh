@@ -28,7 +28,7 @@ without_library() {
 
 # Runs the comparison, with the library where there is a bridge to it.
 compare() {
-    if [ -n "$bridge" ]; then set -- "$@" --library ${emulator:+"$emulator"} "$bridge"; fi
+    if [ -n "$bridge" ]; then set -- "$@" --by ${emulator:+"$emulator"} "$bridge"; fi
     "$out/compare" "$@"
 }
 

@@ -30,10 +30,10 @@ works() {
         [ "$(run_program "$c_out/works" 2>>"$c_out/works.log")" = works ]
 }
 
-# Finds an emulator: the kit's, beside its own compiler, another one, or Debian's.
+# Finds an emulator: the kit's, which is the folder above the one of its first guide, another one, or Debian's.
 find_emulator() {
-    kit=${RATTLE_HOME:-$(dirname "$(dirname "$(readlink -f "$(command -v rt)")")")}
-    for emulator in "$kit/on/$(uname -m)/toolchain/bin/qemu-x86_64" qemu-x86_64 qemu-x86_64-static; do
+    guide=$(rt doc 2>/dev/null)
+    for emulator in "${guide%/*/*}/on/$(uname -m)/toolchain/bin/qemu-x86_64" qemu-x86_64 qemu-x86_64-static; do
         ! command -v "$emulator" >/dev/null 2>&1 || return 0
     done
     emulator=$c_out/qemu/usr/bin/qemu-x86_64-static
@@ -49,7 +49,7 @@ find_compiler() {
         works || {
             mkdir -p "$c_out"
             unpack "$c_out/gcc" install gcc-x86-64-linux-gnu libc6-dev-amd64-cross || return 1
-            compiler=$c_out/gcc/usr/bin/x86_64-linux-gnu-gcc
+            compiler=$PWD/$c_out/gcc/usr/bin/x86_64-linux-gnu-gcc
             compiler_libraries=$PWD/$c_out/gcc/usr/lib/$(uname -m)-linux-gnu
         }
     fi

@@ -1,82 +1,44 @@
-//! Calls of the library, by a program that may be for another kind of machine: the bridge (`compare/bridge.c`), which
-//! says what its frames are.
+//! The bridge (`compare/bridge.c`) under way: a program that links the library and may be for another kind of machine.
+//! The source of it says what its frames are.
 
+use crate::call::{Call, Given};
 use model::{Edit, Span};
 use std::io::{BufReader, Read, Write};
 use std::process::{Child, ChildStdin, ChildStdout, Command, Stdio};
 
-/// The entries, in the order in which the bridge counts them.
-#[derive(Clone, Copy, PartialEq, Debug)]
-pub enum Entry {
-    Format,
-    Check,
-    Insert,
-    Delete,
-    DeleteMin,
-    DeleteMax,
-    Clear,
-    Size,
-    Height,
-    IsEmpty,
-    Query,
-    Apply,
-    Feed,
+pub struct Bridge {
+    child: Child,
+    calls: ChildStdin,
+    left: BufReader<ChildStdout>,
 }
 
-/// A call: its entry, its numbers, and what it lends besides the pool.
-#[derive(Clone, PartialEq, Debug)]
-pub struct Call {
-    entry: Entry,
-    span: Span,
-    value: u64,
-    rows: Vec<u64>,
-    bytes: Vec<u8>,
+/// The number by which the bridge knows a call's entry, and the call's span and value.
+fn asked(call: &Call) -> (u64, Span, u64) {
+    let no_span = Span::excluded(0, 0);
+    match call {
+        Call::Format => (0, no_span, 0),
+        Call::Check => (1, no_span, 0),
+        Call::Edit(Edit::Insert(span, value)) => (2, *span, *value),
+        Call::Edit(Edit::Delete(span)) => (3, *span, 0),
+        Call::Edit(Edit::DeleteMin) => (4, no_span, 0),
+        Call::Edit(Edit::DeleteMax) => (5, no_span, 0),
+        Call::Edit(Edit::Clear) => (6, no_span, 0),
+        Call::Size => (7, no_span, 0),
+        Call::Height => (8, no_span, 0),
+        Call::IsEmpty => (9, no_span, 0),
+        Call::Query(span, _) => (10, *span, 0),
+        Call::Apply(..) => (11, no_span, 0),
+        Call::Feed(_) => (12, no_span, 0),
+    }
 }
 
-impl Call {
-    /// A call that lends the pool alone and gives no numbers.
-    pub fn of(entry: Entry) -> Call {
-        Call { entry, span: Span::excluded(0, 0), value: 0, rows: Vec::new(), bytes: Vec::new() }
-    }
-
-    /// The call that makes an edit.
-    pub fn edit(edit: &Edit) -> Call {
-        match *edit {
-            Edit::Insert(span, value) => Call { span, value, ..Call::of(Entry::Insert) },
-            Edit::Delete(span) => Call { span, ..Call::of(Entry::Delete) },
-            Edit::DeleteMin => Call::of(Entry::DeleteMin),
-            Edit::DeleteMax => Call::of(Entry::DeleteMax),
-            Edit::Clear => Call::of(Entry::Clear),
-        }
-    }
-
-    /// The call that asks a query.
-    pub fn query(span: Span, rows: &[u64]) -> Call {
-        Call { span, rows: rows.to_vec(), ..Call::of(Entry::Query) }
-    }
-
-    /// The call that applies a record.
-    pub fn apply(bytes: &[u8], rows: &[u64]) -> Call {
-        Call { rows: rows.to_vec(), bytes: bytes.to_vec(), ..Call::of(Entry::Apply) }
-    }
-
-    /// The call that feeds records.
-    pub fn feed(bytes: &[u8]) -> Call {
-        Call { bytes: bytes.to_vec(), ..Call::of(Entry::Feed) }
-    }
-
-    /// Adds the call to a frame.
-    fn add_to(&self, frame: &mut Vec<u8>) {
-        let Span { start, end, included } = self.span;
-        let lengths = [self.rows.len(), self.bytes.len()].map(|length| length as u64);
-        let asked = [start, end, flag(start, included), self.value];
-        add_words(frame, [self.entry as u64].iter().chain(&lengths).chain(&asked).chain(&self.rows));
-        frame.extend(&self.bytes);
-    }
-
-    /// Whether the call is lent the pool for reading only.
-    fn reads(&self) -> bool {
-        matches!(self.entry, Entry::Check | Entry::Size | Entry::Height | Entry::IsEmpty | Entry::Query)
+/// The number that says whether the end is included; as any but 0 says so, several are used.
+fn flag(span: Span) -> u64 {
+    match (span.included, span.start % 3) {
+        (false, _) => 0,
+        (true, 0) => 1,
+        (true, 1) => 128,
+        (true, _) => 255,
     }
 }
 
@@ -85,29 +47,13 @@ fn add_words<'a>(frame: &mut Vec<u8>, words: impl IntoIterator<Item = &'a u64>) 
     frame.extend(words.into_iter().flat_map(|word| word.to_le_bytes()));
 }
 
-/// The number that says whether the end is included; as any but 0 says so, several are used.
-fn flag(start: u64, included: bool) -> u64 {
-    match (included, start % 3) {
-        (false, _) => 0,
-        (true, 0) => 1,
-        (true, 1) => 128,
-        (true, _) => 255,
-    }
-}
-
-/// What a call gave, zeros for counts that its entry doesn't have, and the words that it left.
-pub struct Left {
-    pub number: u64,
-    pub counts: [u64; 2],
-    pub words: Vec<u64>,
-    pub rows: Vec<u64>,
-}
-
-/// The bridge under way.
-pub struct Bridge {
-    child: Child,
-    calls: ChildStdin,
-    left: BufReader<ChildStdout>,
+/// Adds a call to a frame.
+fn add_call(frame: &mut Vec<u8>, call: &Call) {
+    let (entry, span, value) = asked(call);
+    let (rows, bytes) = (call.rows(), call.bytes());
+    let numbers = [entry, rows.len() as u64, bytes.len() as u64, span.start, span.end, flag(span), value];
+    add_words(frame, numbers.iter().chain(rows));
+    frame.extend(bytes);
 }
 
 impl Bridge {
@@ -121,11 +67,11 @@ impl Bridge {
         Ok(Bridge { child, calls, left })
     }
 
-    /// Sends calls on the words, each on what the one before left. All that earlier frames gave has to be read before.
-    pub fn send<'a>(&mut self, words: &[u64], calls: impl IntoIterator<Item = &'a Call>) {
+    /// Sends calls on the words, each on what the one before left. All that earlier frames gave has to be taken before.
+    pub fn send(&mut self, words: &[u64], calls: &[Call]) {
         let mut frame = vec![0; 8];
         add_words(&mut frame, [words.len() as u64].iter().chain(words));
-        calls.into_iter().for_each(|call| call.add_to(&mut frame));
+        calls.iter().for_each(|call| add_call(&mut frame, call));
         let length = frame.len() as u64 - 8;
         frame[..8].copy_from_slice(&length.to_le_bytes());
         self.calls.write_all(&frame).and_then(|()| self.calls.flush()).expect("the bridge takes no calls");
@@ -144,20 +90,24 @@ impl Bridge {
         bytes.chunks_exact(8).map(|word| u64::from_le_bytes(word.try_into().expect("eight bytes"))).collect()
     }
 
-    /// What the next call that was sent gave and left, on a pool of these words. What it was lent for reading has to be
-    /// as before.
-    pub fn left_by(&mut self, call: &Call, words: &[u64]) -> Left {
+    /// Takes what the next call that was sent gave, and changes the pool's words to those that it left. What it was lent
+    /// for reading has to be as before.
+    pub fn take(&mut self, call: &Call, words: &mut Vec<u64>) -> Given {
         let given = self.words(3);
         let left = self.words(words.len());
-        let rows = self.words(call.rows.len());
-        assert!(self.bytes(call.bytes.len()) == call.bytes, "{:?} changed a byte that it was to read", call.entry);
-        assert!(!call.reads() || left == words, "{:?} changed a word that it was to read", call.entry);
-        Left { number: given[0], counts: [given[1], given[2]], words: left, rows }
+        let rows = self.words(call.rows().len());
+        assert!(
+            self.bytes(call.bytes().len()) == call.bytes(),
+            "a byte that was lent for reading is changed: {call:?}"
+        );
+        assert!(!call.reads() || left == *words, "a word that was lent for reading is changed: {call:?}");
+        *words = left;
+        Given { number: given[0], counts: [given[1], given[2]], rows }
     }
 }
 
 impl Drop for Bridge {
-    /// Ends the bridge, which may still be writing what nobody reads.
+    /// Ends the bridge, which may still be writing what nobody takes.
     fn drop(&mut self) {
         let _ = self.child.kill();
         let _ = self.child.wait();

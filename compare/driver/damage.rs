@@ -7,12 +7,12 @@ use crate::every::{self, Asked, Sets};
 use crate::party::UNTOUCHED;
 use crate::random::Random;
 use model::entry::{self, Applied, Fed, Measured, Queried};
+use model::pool::{first_word, SLOT_WORDS};
 use model::{held, Ask, Edit, Span};
 use std::collections::BTreeMap;
 
-/// The words of a pool after random edits.
-fn pool(random: &mut Random) -> Vec<u64> {
-    let slots = 1 + random.below(24);
+/// The words of a pool of so many slots after random edits.
+pub fn pool(random: &mut Random, slots: u64) -> Vec<u64> {
     let flavour = random.pick(&FLAVOURS);
     let ranges = asks::ranges(random, flavour, 2 * slots);
     let edits: Vec<Edit> = (0..random.below(4 * slots)).map(|_| asks::edit(random, &ranges, 60)).collect();
@@ -32,20 +32,31 @@ fn word(random: &mut Random, words: &[u64]) -> u64 {
     }
 }
 
+/// Leads one of a slot's two links to another slot, or to none: a cycle, a second parent, a lost slot.
+fn lead_astray(random: &mut Random, words: &mut [u64]) {
+    let slots = (words.len() / SLOT_WORDS) as u64;
+    if let Some(links) = words.get_mut(first_word(1 + random.below(slots.max(1))) + 4) {
+        let shift = random.pick(&[0, 16]);
+        *links = *links & !(0xFFFF << shift) | random.below(slots + 1) << shift;
+    }
+}
+
 /// Damages one to three words, or the length.
 fn damage(random: &mut Random, words: &mut Vec<u64>) {
     for _ in 0..1 + random.below(3) {
-        let at = random.below(words.len() as u64) as usize;
-        match random.below(8) {
+        let [at, other] = [0, 0].map(|_: u64| random.below(words.len() as u64) as usize);
+        match random.below(12) {
             0..=3 => words[at] ^= 1 << random.below(64),
             4..=6 => words[at] = word(random, words),
-            _ => words.truncate(words.len() - random.below(7).min(at as u64) as usize),
+            7 => words.truncate(words.len() - random.below(7).min(at as u64) as usize),
+            8 => words.swap(at, other),
+            _ => lead_astray(random, words),
         }
     }
 }
 
 /// A run of bytes: whole records, cut records, and bytes of any kind.
-fn bytes(random: &mut Random) -> Vec<u8> {
+pub fn bytes(random: &mut Random) -> Vec<u8> {
     let flavour = random.pick(&FLAVOURS);
     let ranges = asks::ranges(random, flavour, 20);
     let edits: Vec<Edit> = (0..random.below(12)).map(|_| asks::edit(random, &ranges, 70)).collect();
@@ -101,7 +112,7 @@ fn feed_is_repeated_apply(words: &[u64], bytes: &[u8]) -> bool {
 }
 
 /// A record of each kind.
-fn record_of_each_kind() -> Vec<Vec<u8>> {
+pub fn record_of_each_kind() -> Vec<Vec<u8>> {
     let metres = Span::excluded(1_000_000, 2_000_000);
     let links = Span::excluded(201_168, 402_336);
     let (excluded, included) = (Span::excluded(3, 9), Span::included(3, 9));
@@ -141,7 +152,8 @@ struct Case {
 impl Case {
     /// The next case.
     fn draw(random: &mut Random) -> Case {
-        let whole = pool(random);
+        let slots = 1 + random.below(24);
+        let whole = pool(random, slots);
         let bytes = bytes(random);
         let mut damaged = whole.clone();
         damage(random, &mut damaged);

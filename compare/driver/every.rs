@@ -1,8 +1,9 @@
-//! Every entry on the same words and bytes. The first set of entries, the model's, judges; each other set has to give the
-//! same number and counts and to leave the same words and rows, refused or not.
+//! Every entry on the same words, one after the other, each on what the one before left: where words are refused, that is
+//! all of them on these very words. The first set of entries, the model's, judges; each other set has to give the same
+//! numbers and counts and to leave the same words and rows.
 
+use crate::call::{Call, Given, MEASURES};
 use crate::party::{Entries, UNTOUCHED};
-use model::entry::{Applied, Fed, Queried};
 use model::{Edit, Span};
 
 pub type Sets = Vec<Box<dyn Entries>>;
@@ -15,60 +16,34 @@ pub struct Asked<'a> {
     pub room: usize,
 }
 
-/// A call's entry, the numbers that it gave, and the pool's words and the rows that it left.
-type Left = (&'static str, Vec<u64>, Vec<u64>, Vec<u64>);
-
-/// Format and the edits, each on words of its own.
-fn changed(entries: &dyn Entries, words: &[u64], asked: &Asked) -> Vec<Left> {
-    let edits = [
-        ("insert", Edit::Insert(asked.span, asked.value)),
-        ("delete", Edit::Delete(asked.span)),
-        ("delete-min", Edit::DeleteMin),
-        ("delete-max", Edit::DeleteMax),
-        ("clear", Edit::Clear),
-    ];
-    let mut formatted = words.to_vec();
-    let number = entries.format(&mut formatted);
-    let made = edits.map(|(name, edit)| {
-        let mut after = words.to_vec();
-        let number = entries.edit(&mut after, &edit);
-        (name, vec![number], after, vec![])
-    });
-    [("format", vec![number], formatted, vec![])].into_iter().chain(made).collect()
+/// The calls of every entry, those that leave most of a pool first.
+fn every_entry(asked: &Asked) -> Vec<Call> {
+    let Asked { span, value, bytes, room } = *asked;
+    let rows = vec![UNTOUCHED; room];
+    let [size, height, is_empty] = MEASURES;
+    let edits = [Edit::Insert(span, value), Edit::Delete(span), Edit::DeleteMin, Edit::DeleteMax];
+    let looks =
+        [Call::Check, size, height, is_empty, Call::Query(span, rows.clone()), Call::Apply(bytes.to_vec(), rows)];
+    let last = [Call::Feed(bytes.to_vec()), Call::Edit(Edit::Clear), Call::Format];
+    looks.into_iter().chain(edits.map(Call::Edit)).chain(last).collect()
 }
 
-/// Check, the measures and the query, which leave the pool's words alone.
-fn read(entries: &dyn Entries, words: &[u64], asked: &Asked) -> Vec<Left> {
-    let mut rows = vec![UNTOUCHED; asked.room];
-    let Queried { number, hits } = entries.query(words, asked.span, &mut rows);
-    let measures = entries.measures(words).map(|one| [one.number, one.measure as u64]).concat();
-    vec![
-        ("check", vec![entries.check(words)], vec![], vec![]),
-        ("size, height, is_empty", measures, vec![], vec![]),
-        ("query", vec![number, hits], vec![], rows),
-    ]
+/// Makes the calls, and gives what each gave with the words that it left.
+fn made(entries: &dyn Entries, words: &[u64], calls: &[Call]) -> Vec<(Given, Vec<u64>)> {
+    let mut words = words.to_vec();
+    entries.foresee(&words, &|| calls.to_vec());
+    let make = |call| (entries.call(&mut words, call), words.clone());
+    calls.iter().map(make).collect()
 }
 
-/// Apply and feed, each on words of its own.
-fn applied(entries: &dyn Entries, words: &[u64], asked: &Asked) -> Vec<Left> {
-    let (mut after, mut after_feed, mut rows) = (words.to_vec(), words.to_vec(), vec![UNTOUCHED; asked.room]);
-    let Applied { number, bytes, hits } = entries.apply(&mut after, asked.bytes, &mut rows);
-    let fed = entries.feed(&mut after_feed, asked.bytes);
-    let Fed { number: fed_number, records, bytes: fed_bytes } = fed;
-    vec![
-        ("apply", vec![number, bytes, hits], after, rows),
-        ("feed", vec![fed_number, records, fed_bytes], after_feed, vec![]),
-    ]
-}
-
-/// Makes calls by every set and compares what they left with what the judge's left; gives how many were compared.
-fn same(sets: &Sets, calls: &dyn Fn(&dyn Entries) -> Vec<Left>) -> Result<u64, String> {
-    let judged = calls(sets[0].as_ref());
+/// Makes the calls by every set and compares what they gave and left with the judge's; gives how many were compared.
+fn same(sets: &Sets, words: &[u64], calls: &[Call]) -> Result<u64, String> {
+    let judged = made(sets[0].as_ref(), words, calls);
     let mut compared = 0;
     for set in &sets[1..] {
-        for (ours, theirs) in judged.iter().zip(calls(set.as_ref())) {
+        for ((call, ours), theirs) in calls.iter().zip(&judged).zip(made(set.as_ref(), words, calls)) {
             if *ours != theirs {
-                return Err(format!("{}:\n  {}: {ours:?}\n  {}: {theirs:?}", ours.0, sets[0].name(), set.name()));
+                return Err(format!("{call:?}:\n  {}: {ours:?}\n  {}: {theirs:?}", sets[0].name(), set.name()));
             }
             compared += 1;
         }
@@ -78,15 +53,13 @@ fn same(sets: &Sets, calls: &dyn Fn(&dyn Entries) -> Vec<Left>) -> Result<u64, S
 
 /// Every entry on these words.
 pub fn entries(sets: &Sets, words: &[u64], asked: &Asked) -> Result<u64, String> {
-    same(sets, &|set| [changed(set, words, asked), read(set, words, asked), applied(set, words, asked)].concat())
+    same(sets, words, &every_entry(asked))
 }
 
-/// A pool of four slots with two ranges in it, and its records' and rows' worth of room.
-fn two_stored(judge: &dyn Entries) -> Vec<u64> {
-    let mut words = vec![UNTOUCHED; 28];
-    judge.format(&mut words);
-    judge.edit(&mut words, &Edit::Insert(Span::excluded(3, 9), 1));
-    judge.edit(&mut words, &Edit::Insert(Span::excluded(5, 6), 2));
+/// Words of this length after a format, where they can be a pool.
+fn formatted(sets: &Sets, length: usize) -> Vec<u64> {
+    let mut words = vec![UNTOUCHED; length];
+    sets[0].call(&mut words, &Call::Format);
     words
 }
 
@@ -96,27 +69,30 @@ pub fn lengths(sets: &Sets) -> Result<u64, String> {
     let mut compared = 0;
     for length in (0..=41).chain(24_567..=24_582).chain([30_000]) {
         let asked = Asked { span: Span::excluded(1, 2), value: 3, bytes: &[6], room: length % 8 };
-        let (zeros, untouched) = (vec![0; length], vec![UNTOUCHED; length]);
-        let mut formatted = untouched.clone();
-        sets[0].format(&mut formatted);
-        for words in [zeros, untouched, formatted] {
+        for words in [vec![0; length], vec![UNTOUCHED; length], formatted(sets, length)] {
             compared += entries(sets, &words, &asked).map_err(|report| format!("length {length}: {report}"))?;
         }
     }
     Ok(compared)
 }
 
-/// Every kind of record with 0 to 26 bytes after it, applied and fed, with room for 0 to 7 words of rows.
+/// Every kind of record with 0 to 26 bytes after it, applied and fed to a pool with two ranges in it, with room for 0 to
+/// 7 words of rows.
 pub fn records(sets: &Sets) -> Result<u64, String> {
-    let words = two_stored(sets[0].as_ref());
+    let mut words = formatted(sets, 28);
+    for (span, value) in [(Span::excluded(3, 9), 1), (Span::excluded(5, 6), 2)] {
+        sets[0].call(&mut words, &Call::Edit(Edit::Insert(span, value)));
+    }
     let mut compared = 0;
     for kind in 0..=255 {
         for after_kind in 0..=26 {
             let body = [3, 0, 0, 0, 9, 0, 0, 0].repeat(4);
             let bytes = [&[kind], &body[..after_kind]].concat();
-            let asked = Asked { span: Span::excluded(0, 0), value: 0, bytes: &bytes, room: after_kind % 8 };
-            let report = |left| format!("kind {kind} with {after_kind} bytes after it: {left}");
-            compared += same(sets, &|set| applied(set, &words, &asked)).map_err(report)?;
+            let calls = [Call::Apply(bytes.clone(), vec![UNTOUCHED; after_kind % 8]), Call::Feed(bytes)];
+            for call in calls {
+                let report = |left| format!("kind {kind} with {after_kind} bytes after it: {left}");
+                compared += same(sets, &words, &[call]).map_err(report)?;
+            }
         }
     }
     Ok(compared)

@@ -1,6 +1,7 @@
 //! Document 01's mapped examples 1 to 12. The first seven are run on every party, 8 and 9 on every party that has a
 //! pool, 10 to 12 on the words of such. In them "n" means n..n+1.
 
+use crate::call::Call;
 use crate::compare::Parties;
 use crate::every::Sets;
 use crate::party::{Entries, Party, Request};
@@ -116,15 +117,15 @@ fn full_and_included(party: &mut dyn Party, facts: &mut Facts) -> Result<(), Str
 /// Cases 10 to 12: links, words and lengths.
 fn words_and_lengths(entries: &dyn Entries, facts: &mut Facts) -> Result<(), String> {
     let mut words = [LAST; 16];
-    facts.same("11, format", entries.format(&mut words), 0)?;
+    facts.same("11, format", entries.call(&mut words, &Call::Format).number, 0)?;
     facts.same("11, fresh", words, [0, 1, 0, 0, 0, 0, 0, 0, 2, 0, 0, 0, 0, 0, 0, 0])?;
-    entries.edit(&mut words, &Edit::Insert(Span::excluded(10, 20), 7));
+    entries.call(&mut words, &Call::Edit(Edit::Insert(Span::excluded(10, 20), 7)));
     facts.same("11, after 10..20", words, [1, 2, 1, 0, 10, 20, 7, 20, 0, 65536, 0, 0, 0, 0, 0, 0])?;
     let links = [&[2][..], &0u32.to_le_bytes(), &200u32.to_le_bytes(), &7u64.to_le_bytes()].concat();
-    facts.same("10, bytes", entries.apply(&mut words, &links, &mut []).bytes, 17)?;
+    facts.same("10, bytes", entries.call(&mut words, &Call::Apply(links, vec![])).counts, [17, 0])?;
     facts.same("10, end", words[11], 40_233_600)?;
     for (length, number) in [(4, 10), (15, 10), (24_575, 10), (10, 0), (24_574, 0)] {
-        facts.same("12, length", entries.format(&mut vec![0; length]), number)?;
+        facts.same("12, length", entries.call(&mut vec![0; length], &Call::Format).number, number)?;
     }
     Ok(())
 }

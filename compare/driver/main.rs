@@ -1,10 +1,13 @@
 //! Compares the crate `meminterval`, the reference model and the library, and writes the recorded answers.
 //!
-//! usage: compare examples | record FILE | run STEPS SEED | visits TREES SEED | damage POOLS SEED
-//! With `--library COMMAND` at the end the library takes part; the command starts the bridge to it.
+//! usage: compare examples | record FILE | run STEPS SEED | visits TREES SEED | damage POOLS SEED | flips POOLS SEED |
+//! program INPUTS SEED
+//! With `--by COMMAND` at the end the library takes part, and the command starts the bridge to it; for `program` it
+//! starts the program.
 
 mod asks;
 mod bridge;
+mod call;
 mod cases;
 mod compare;
 mod coverage;
@@ -12,10 +15,12 @@ mod damage;
 mod encode;
 mod every;
 mod examples;
+mod flips;
 mod library;
 mod list;
 mod original;
 mod party;
+mod program;
 mod random;
 mod reference;
 mod requests;
@@ -67,15 +72,17 @@ fn number(words: &[String], at: usize) -> Result<u64, String> {
 
 /// Does what the arguments ask for, and gives the line to print.
 fn answer(words: &[String]) -> Result<String, String> {
-    let mut parts = words.splitn(2, |word| word == "--library");
-    let (words, bridge) = (parts.next().unwrap_or_default(), parts.next().unwrap_or_default());
+    let mut parts = words.splitn(2, |word| word == "--by");
+    let (words, command) = (parts.next().unwrap_or_default(), parts.next().unwrap_or_default());
     match words.first().map(String::as_str) {
-        Some("examples") => examples::run(parties(bridge)?, sets(bridge)?),
+        Some("examples") => examples::run(parties(command)?, sets(command)?),
         Some("record") => list::write(words.get(1).ok_or("a file name is missing")?),
-        Some("run") => run(parties(bridge)?, number(words, 1)?, number(words, 2)?),
-        Some("damage") => damage::run(&sets(bridge)?, number(words, 1)?, number(words, 2)?),
+        Some("run") => run(parties(command)?, number(words, 1)?, number(words, 2)?),
+        Some("damage") => damage::run(&sets(command)?, number(words, 1)?, number(words, 2)?),
+        Some("flips") => flips::run(&sets(command)?, number(words, 1)?, number(words, 2)?),
+        Some("program") => program::run(command, number(words, 1)?, number(words, 2)?),
         Some("visits") => visits::run(number(words, 1)?, number(words, 2)?),
-        _ => Err("the first word is none of examples, record, run, visits, damage".to_string()),
+        _ => Err("the first word is none of examples, record, run, visits, damage, flips, program".to_string()),
     }
 }
 

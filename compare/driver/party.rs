@@ -1,9 +1,9 @@
 //! Who is compared, and by what. A party answers requests; one that keeps a pool needs `Entries` only.
 
+use crate::call::{Call, Given, MEASURES};
 use crate::encode;
-use model::entry::{Applied, Fed, Measured, Queried};
 use model::tree::Tree;
-use model::{held, Ask, Edit, Range, Span};
+use model::{held, Ask, Edit, Range};
 
 pub use meminterval::probe::Shape;
 
@@ -76,22 +76,10 @@ pub trait Party {
 pub trait Entries {
     /// How the party is called in a report.
     fn name(&self) -> &'static str;
-    /// Hears which calls will follow: a format of these words, then those of the requests.
-    fn foresee(&self, _: &[u64], _: &[Request]) {}
-    /// Makes the words a fresh pool; gives the number.
-    fn format(&self, words: &mut [u64]) -> u64;
-    /// Whether the words are a sound pool; gives the number.
-    fn check(&self, words: &[u64]) -> u64;
-    /// Inserts, deletes or clears; gives the number.
-    fn edit(&self, words: &mut [u64], edit: &Edit) -> u64;
-    /// Writes the rows of a query's hits, as many as fit.
-    fn query(&self, words: &[u64], span: Span, rows: &mut [u64]) -> Queried;
-    /// Applies one record.
-    fn apply(&self, words: &mut [u64], bytes: &[u8], rows: &mut [u64]) -> Applied;
-    /// Applies records until the bytes end or one is refused.
-    fn feed(&self, words: &mut [u64], bytes: &[u8]) -> Fed;
-    /// Size, height and `is_empty`.
-    fn measures(&self, words: &[u64]) -> [Measured; 3];
+    /// Hears which calls will follow on these words, each on what the one before leaves.
+    fn foresee(&self, _: &[u64], _: &dyn Fn() -> Vec<Call>) {}
+    /// Makes a call on the words and leaves them as the call does.
+    fn call(&self, words: &mut [u64], call: &Call) -> Given;
     /// The pending nodes after each hit, as `Party::trail` has them.
     fn trail(&self, words: &[u64], query: Range) -> Option<Vec<u64>>;
 }
@@ -108,27 +96,26 @@ impl Pooled {
         Pooled { entries, words: Vec::new() }
     }
 
-    /// Makes an ask by its own entry.
-    fn direct(&mut self, ask: &Ask, room: usize) -> Reply {
-        let mut run = Run::lent(room);
-        match ask {
-            Ask::Edit(edit) => {
-                let number = self.entries.edit(&mut self.words, edit);
-                Reply { number, run, ..Reply::default() }
-            }
-            Ask::Query(span) => {
-                let Queried { number, hits } = self.entries.query(&self.words, *span, &mut run.0);
-                Reply { number, hits, run, ..Reply::default() }
-            }
-        }
+    /// Makes the only call of a request.
+    fn call(&mut self, request: &Request) -> Given {
+        let [call] = &calls_of(request)[..] else {
+            unreachable!("only size, height and is_empty are asked together");
+        };
+        self.entries.call(&mut self.words, call)
     }
+}
 
-    /// Makes an ask by its record.
-    fn apply(&mut self, ask: &Ask, room: usize) -> Reply {
-        let mut run = Run::lent(room);
-        let bytes = encode::record(ask).expect("only asks that have a record are applied");
-        let Applied { number, bytes, hits } = self.entries.apply(&mut self.words, &bytes, &mut run.0);
-        Reply { number, hits, run, bytes, ..Reply::default() }
+/// The calls by which a party with a pool makes a request.
+fn calls_of(request: &Request) -> Vec<Call> {
+    match request {
+        Request::Direct(Ask::Edit(edit), _) => vec![Call::Edit(*edit)],
+        Request::Direct(Ask::Query(span), room) => vec![Call::Query(*span, Run::lent(*room).0)],
+        Request::Record(ask, room) => {
+            let bytes = encode::record(ask).expect("only asks that have a record are applied");
+            vec![Call::Apply(bytes, Run::lent(*room).0)]
+        }
+        Request::Feed(edits) => vec![Call::Feed(encode::records(edits))],
+        Request::Measure => MEASURES.to_vec(),
     }
 }
 
@@ -165,24 +152,24 @@ impl Party for Pooled {
     /// Formats such words, and tells the entries beforehand what follows.
     fn begin(&mut self, slots: u64, requests: &[Request]) {
         self.words = vec![UNTOUCHED; 4 + 6 * slots as usize];
-        self.entries.foresee(&self.words, requests);
-        assert_eq!(self.entries.format(&mut self.words), 0, "format of {slots} slots");
+        let calls = || std::iter::once(Call::Format).chain(requests.iter().flat_map(calls_of)).collect();
+        self.entries.foresee(&self.words, &calls);
+        assert_eq!(self.entries.call(&mut self.words, &Call::Format).number, 0, "format of {slots} slots");
     }
 
-    /// Calls the entry that the request names.
+    /// Makes the calls of the request.
     fn reply(&mut self, request: &Request) -> Reply {
+        if *request == Request::Measure {
+            let given = MEASURES.map(|call| self.entries.call(&mut self.words, &call));
+            let number = given.iter().map(|one| one.number).max().unwrap_or(0);
+            return Reply { number, measures: given.map(|one| one.counts[0] as i64), ..Reply::default() };
+        }
+        let Given { number, counts: [first, second], rows } = self.call(request);
+        let reply = Reply { number, run: Run(rows), ..Reply::default() };
         match request {
-            Request::Direct(ask, room) => self.direct(ask, *room),
-            Request::Record(ask, room) => self.apply(ask, *room),
-            Request::Feed(edits) => {
-                let Fed { number, records, bytes } = self.entries.feed(&mut self.words, &encode::records(edits));
-                Reply { number, records, bytes, ..Reply::default() }
-            }
-            Request::Measure => {
-                let measured = self.entries.measures(&self.words);
-                let number = measured.iter().map(|one| one.number).max().unwrap_or(0);
-                Reply { number, measures: measured.map(|one| one.measure), ..Reply::default() }
-            }
+            Request::Direct(..) | Request::Measure => Reply { hits: first, ..reply },
+            Request::Record(..) => Reply { bytes: first, hits: second, ..reply },
+            Request::Feed(_) => Reply { records: first, bytes: second, ..reply },
         }
     }
 

@@ -1,11 +1,17 @@
 //! The reference model as a party.
 
+use crate::call::{Call, Given};
 use crate::party::Entries;
 use model::entry::{self, Applied, Fed, Measured, Queried};
 use model::walk::Walk;
-use model::{held, Edit, Range, Span};
+use model::{held, Range};
 
 pub struct Reference;
+
+/// A measure's number, and the measure as a count.
+fn measured(Measured { number, measure }: Measured) -> (u64, [u64; 2]) {
+    (number, [measure as u64, 0])
+}
 
 impl Entries for Reference {
     /// How reports call it.
@@ -13,39 +19,30 @@ impl Entries for Reference {
         "model"
     }
 
-    /// The model's format.
-    fn format(&self, words: &mut [u64]) -> u64 {
-        entry::format(words)
-    }
-
-    /// The model's check.
-    fn check(&self, words: &[u64]) -> u64 {
-        entry::check(words)
-    }
-
-    /// The model's edits.
-    fn edit(&self, words: &mut [u64], edit: &Edit) -> u64 {
-        entry::edit(words, edit)
-    }
-
-    /// The model's query.
-    fn query(&self, words: &[u64], span: Span, rows: &mut [u64]) -> Queried {
-        entry::query(words, span, rows)
-    }
-
-    /// The model's apply.
-    fn apply(&self, words: &mut [u64], bytes: &[u8], rows: &mut [u64]) -> Applied {
-        entry::apply(words, bytes, rows)
-    }
-
-    /// The model's feed.
-    fn feed(&self, words: &mut [u64], bytes: &[u8]) -> Fed {
-        entry::feed(words, bytes)
-    }
-
-    /// The model's size, height and `is_empty`.
-    fn measures(&self, words: &[u64]) -> [Measured; 3] {
-        [entry::size(words), entry::height(words), entry::is_empty(words)]
+    /// The model's entry.
+    fn call(&self, words: &mut [u64], call: &Call) -> Given {
+        let mut rows = call.rows().to_vec();
+        let (number, counts) = match call {
+            Call::Format => (entry::format(words), [0, 0]),
+            Call::Check => (entry::check(words), [0, 0]),
+            Call::Edit(edit) => (entry::edit(words, edit), [0, 0]),
+            Call::Size => measured(entry::size(words)),
+            Call::Height => measured(entry::height(words)),
+            Call::IsEmpty => measured(entry::is_empty(words)),
+            Call::Query(span, _) => {
+                let Queried { number, hits } = entry::query(words, *span, &mut rows);
+                (number, [hits, 0])
+            }
+            Call::Apply(bytes, _) => {
+                let Applied { number, bytes, hits } = entry::apply(words, bytes, &mut rows);
+                (number, [bytes, hits])
+            }
+            Call::Feed(bytes) => {
+                let Fed { number, records, bytes } = entry::feed(words, bytes);
+                (number, [records, bytes])
+            }
+        };
+        Given { number, counts, rows }
     }
 
     /// The pending nodes of the model's walk, which goes by steps where its query goes by the definition of the hits.

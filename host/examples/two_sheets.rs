@@ -24,12 +24,9 @@ fn read(text: &str) -> Result<Survey, Box<dyn Error>> {
         Some("unit links") => Unit::Links,
         other => return Err(format!("the first line says no unit: {other:?}").into()),
     };
-    let stretch = |line: &str| {
-        let words: Vec<&str> = line.split_whitespace().collect();
-        let [start, end, job] = words[..] else {
-            return Err(format!("not START END JOB: {line}").into());
-        };
-        Ok((start.parse()?, end.parse()?, job.parse()?))
+    let stretch = |line: &str| match line.split_whitespace().collect::<Vec<&str>>()[..] {
+        [start, end, job] => Ok((start.parse()?, end.parse()?, job.parse()?)),
+        _ => Err(format!("not START END JOB: {line}").into()),
     };
     let stretches = lines.filter(|line| !line.starts_with('#')).map(stretch);
     Ok((unit, stretches.collect::<Result<_, Box<dyn Error>>>()?))

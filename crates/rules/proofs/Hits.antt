@@ -1,8 +1,8 @@
 -- The hits are the overlapping entries, each once, and a walk that passes subtrees over finds them all: document 01,
 -- "A query visits node, then right subtree, then left subtree" to "The hits are the overlapping entries in that
 -- visiting order." Assumes nothing.
-use Prim.Native.Nat.{suc, _≤_}
-use mathlib.Core.Bool.{true, false, cond}
+use Prim.Native.Nat.{suc, _+_, _≤_}
+use mathlib.Core.Bool.{Bool, true, false, cond}
 use mathlib.Core.List.{List, [], _∷_, _++_, Perm, Perm·eq-nil}
 use mathlib.Core.List.{List·Permᴰ, List·Permᴰ·nil, List·Permᴰ·cons, List·Permᴰ·swap, List·Permᴰ·trans}
 use mathlib.Core.List.{Permᴰ·symm, Permᴰ·append-left, Permᴰ·append-right, Permᴰ·middle}
@@ -10,9 +10,9 @@ use mathlib.Core.List.{List·Permᴰ·append-comm}
 use mathlib.Core.Logic.{⊎-elim}
 use mathlib.Core.Path.{_≡_, refl, sym, ap, _∙_}
 use native.Mathlib.Omega.{arith}
-use lib.ListN.{length}
+use lib.ListN.{length, length-append}
 use Rattle.rules.specs.Range.{Range, overlaps}
-use Rattle.rules.specs.Tree.{Entry, Tree, leaf, node, max-end, entries}
+use Rattle.rules.specs.Tree.{Entry, Tree, leaf, node, size, max-end, entries}
 use Rattle.rules.specs.Pool.{ascending}
 use Rattle.rules.specs.Query.{visits, overlapping, hits, passed-over, skips-right}
 use Rattle.rules.proofs.Tests.{lt-cases}
@@ -56,6 +56,17 @@ hits-length q t = perm-length (hits-once q t)
 pub hits-node :
     (q : Range) (e : Entry) (l r : Tree) → hits q (node e l r) ≡ kept (overlaps (e .range) q) e (hits q r ++ hits q l)
 hits-node q e l r = rw (overlapping-append (λ (x : Entry). x .range) q (visits r) (visits l)) refl
+
+-- there are no more hits than entries
+pub few-hits : (q : Range) (t : Tree) → length (hits q t) ≤ size t
+few-hits q leaf = omega arith
+few-hits q (node e l r) =
+    rw (hits-node q e l r) (go (overlaps (e .range) q) (hits q r) (hits q l) (few-hits q r) (few-hits q l))
+  where
+    go : (b : Bool) (xs ys : List Entry) → length xs ≤ size r → length ys ≤ size l
+        → length (kept b e (xs ++ ys)) ≤ suc (size l + size r)
+    go true xs ys h k = rw length-append (omega arith)
+    go false xs ys h k = rw length-append (omega arith)
 
 -- nothing overlaps in a subtree whose largest end isn't above the query's start
 pub hits-passed : (q : Range) (t : Tree) → max-end t ≤ q .start → hits q t ≡ []

@@ -1,23 +1,21 @@
 -- What a record leaves of a pool: the words hold a pool again, and there are no more hits than slots. Assumes nothing.
-use Prim.Native.Nat.{ℕ, suc, _+_, _*_, _≤_}
-use mathlib.Core.Bool.{Bool, true, false}
-use mathlib.Core.List.{List, _++_}
+use Prim.Native.Nat.{ℕ, _*_, _≤_}
+use mathlib.Core.List.{List}
 use mathlib.Core.Option.{Option, none, some}
 use mathlib.Core.Path.{_≡_, _∙_}
 use native.Mathlib.Omega.{arith}
-use lib.ListN.{length, length-append}
-use Rattle.rules.specs.Range.{Range, range-to, overlaps}
-use Rattle.rules.specs.Tree.{Entry, Tree, leaf, node, size}
+use lib.ListN.{length}
+use Rattle.rules.specs.Range.{Range, range-to}
+use Rattle.rules.specs.Tree.{size}
 use Rattle.rules.specs.Query.{hits}
 use Rattle.rules.specs.Pool.{Pool, Holds, words, capacity, fresh}
 use Rattle.rules.specs.Request.{Request, inserting, deleting, deleting-end, clearing, querying, serve, with-range, names}
 use Rattle.rules.specs.Record.{Reading, whole, unknown, cut-short}
 use Rattle.rules.specs.Entries.{apply-read}
 use Rattle.rules.proofs.Held.{words-hold}
-use Rattle.rules.proofs.Hits.{hits-node}
+use Rattle.rules.proofs.Hits.{few-hits}
 use Rattle.rules.proofs.Lengths.{roomy, length-words}
 use Rattle.rules.proofs.Once.{good-fresh, all-slots}
-use Rattle.rules.proofs.Overlap.{kept}
 use Rattle.rules.proofs.Serving.{good-serve}
 use Rattle.survey.specs.Ready.{Ready}
 use Rattle.serve.proofs.Hitless.{insert-hitless, delete-hitless, end-hitless}
@@ -39,17 +37,6 @@ applied-ready {ws} {after} r run long ready is =
           rw e
               (words-hold c _ (good-serve c request (ready .held) (ready .holds .is-good)) (room .some-slot) (room .not-above)),
         )
-
--- there are no more hits than entries
-few-hits : (q : Range) (t : Tree) → length (hits q t) ≤ size t
-few-hits q leaf = omega arith
-few-hits q (node e l r) =
-    rw (hits-node q e l r) (go (overlaps (e .range) q) (hits q r) (hits q l) (few-hits q r) (few-hits q l))
-  where
-    go : (b : Bool) (xs ys : List Entry) → length xs ≤ size r → length ys ≤ size l
-        → length (kept b e (xs ++ ys)) ≤ suc (size l + size r)
-    go true xs ys h k = rw length-append (omega arith)
-    go false xs ys h k = rw length-append (omega arith)
 
 -- so no request is answered with more
 few-served : (c : ℕ) (request : Request) (p : Pool) → length (serve c request p .hits) ≤ size (p .tree)

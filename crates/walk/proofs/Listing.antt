@@ -1,7 +1,7 @@
 -- The query: what it has counted and written are the first hits, and the others are those of the pending trees. Assumes
 -- nothing.
 use Prim.Native.Nat.{ℕ, suc, _+_, _≤_, _<_}
-use mathlib.Core.Bool.{Bool, true, false, cond}
+use mathlib.Core.Bool.{cond}
 use mathlib.Core.List.{List, [], _∷_, _++_, append-assoc, append-nil}
 use mathlib.Core.Option.{Option, none, some}
 use mathlib.Core.Path.{_≡_, refl, sym, ap, _∙_}
@@ -9,12 +9,11 @@ use native.Mathlib.Omega.{arith}
 use lib.Dec.{eqb}
 use lib.ListN.{length, take, set, length-append}
 use Rattle.rules.specs.Limits.{most-slots, most-pending}
-use Rattle.rules.specs.Range.{Range, overlaps}
-use Rattle.rules.specs.Tree.{Entry, Tree, leaf, node, size, entries}
-use Rattle.rules.specs.Query.{overlapping, hits, Pending, at-start, with-hit}
+use Rattle.rules.specs.Range.{Range}
+use Rattle.rules.specs.Tree.{Entry, Tree, leaf, node}
+use Rattle.rules.specs.Query.{hits, Pending, at-start, with-hit}
 use Rattle.rules.specs.Entries.{rows-into}
-use Rattle.rules.proofs.Hits.{hits-length}
-use Rattle.rules.proofs.Inorder.{size-length}
+use Rattle.rules.proofs.Hits.{few-hits}
 use Rattle.rules.proofs.Pending.{Each, each-none, each-more, each-at-start, In-order, in-order-down, Fits, fits-down}
 use Rattle.rules.proofs.Steps.{all-hits, total}
 use Rattle.node.proofs.Few.{few-entries}
@@ -60,19 +59,6 @@ walk-start {t = t} q stack w long =
 hit-before : (o : Option Entry) (es : List Entry) → with-hit o [] ++ es ≡ with-hit o es
 hit-before none es = refl
 hit-before (some e) es = refl
-
--- no more of a list overlap than there are
-overlapping-few : (q : Range) (es : List Entry) → length (overlapping (λ (e : Entry). e .range) q es) ≤ length es
-overlapping-few q [] = omega arith
-overlapping-few q (e ∷ es) = go (overlaps (e .range) q) _ (overlapping-few q es)
-  where
-    go : (b : Bool) (xs : List Entry) → length xs ≤ length es → length (cond b (e ∷ xs) xs) ≤ suc (length es)
-    go true xs h = omega arith
-    go false xs h = omega arith
-
--- there are no more hits than entries
-few-hits : (q : Range) (t : Tree) → length (hits q t) ≤ size t
-few-hits q t = omega (arith, hits-length q t, size-length t, overlapping-few q (entries t))
 
 module _ {ss stack start run : List ℕ} {n count : ℕ} {q : Range} {t : Tree} (w : Walks ss stack n q t start run count) where
   -- so they can be counted

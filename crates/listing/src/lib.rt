@@ -1,0 +1,94 @@
+// The recorded list of the oracle, run through the entries line by line: every answer, size, height, row and shape is
+// compared. compare/recorded/README.md has the list's format.
+mod edits;
+mod line;
+pub mod notes;
+mod queries;
+mod shapes;
+
+ghost use mathlib.Core.Path.{_≡_};
+ghost use Prim.Native.Nat.{_≤_};
+ghost use lib.ListN.{length};
+
+// How many words a pool of so many slots has: none where there is no such pool.
+fn pool_words(slots: u64) -> u64 {
+    if slots > 4095 {
+        return 0;
+    }
+    4 + 6 * slots
+}
+
+// How many words of the room are the pool: none where it has fewer.
+fn in_use(room: &[u64], words: u64) -> usize
+    ensures { λ n. ⌜ n ≤ length (now (room .entry)) ⌝ }
+{
+    let n = words as usize;
+    if n > room.len() {
+        return 0;
+    }
+    n
+}
+
+// Obeys a line on the pool.
+fn obey(pool: &mut [u64], rows: &mut [u64], letter: u8, line: &[u64], notes: &mut [u64])
+    requires { ⌜ (length (now line) ≡ 10) × (length (now notes) ≡ 64) ⌝ }
+{
+    match letter {
+        b'q' => queries::query(pool, rows, line, notes, 0),
+        b'p' => queries::query(pool, rows, line, notes, 1),
+        b'r' => queries::row(rows, line, notes),
+        b's' => shapes::tree(pool, line, notes),
+        b'n' => shapes::node(pool, line, notes),
+        b'z' | 0 => {}
+        _ => edits::edit(pool, letter, line, notes),
+    }
+}
+
+// Notes a line before it is obeyed: what is due ends with any line but a row or a node, and a fresh pool has words of its
+// own.
+fn note(letter: u8, line: &[u64], notes: &mut [u64])
+    requires { ⌜ (length (now line) ≡ 10) × (length (now notes) ≡ 64) ⌝ }
+{
+    notes::count(notes, line::counter(letter));
+    match letter {
+        b'r' | b'n' => {}
+        b'f' => {
+            notes::settle(notes);
+            notes::put(notes, notes::WORDS, pool_words(line[0]));
+        }
+        _ => notes::settle(notes),
+    }
+}
+
+// Obeys a line on the pool in the room.
+fn take_line(room: &mut [u64], rows: &mut [u64], line: &[u64], notes: &mut [u64])
+    requires { ⌜ (length (now line) ≡ 10) × (length (now notes) ≡ 64) ⌝ }
+{
+    let letter = line::letter(line);
+    note(letter, line, notes);
+    let n = in_use(room, notes[notes::WORDS]);
+    obey(&mut room[0..n], rows, letter, line, notes);
+}
+
+// Takes in a byte, and obeys the line at its end.
+fn take_byte(byte: u8, room: &mut [u64], rows: &mut [u64], line: &mut [u64], notes: &mut [u64])
+    requires { ⌜ (length (now line) ≡ 10) × (length (now notes) ≡ 64) ⌝ }
+{
+    if byte == b'\n' {
+        take_line(room, rows, line, notes);
+        line::clear(line);
+    } else {
+        line::take(line, byte);
+    }
+}
+
+// Takes in bytes of the list, from where those before left off. At its start all words of `line` and `notes` are 0.
+pub fn take(bytes: &[u8], room: &mut [u64], rows: &mut [u64], line: &mut [u64], notes: &mut [u64])
+    requires { ⌜ (length (now line) ≡ 10) × (length (now notes) ≡ 64) ⌝ }
+{
+    let mut i = 0;
+    while i < bytes.len() {
+        take_byte(bytes[i], room, rows, line, notes);
+        i += 1;
+    }
+}

@@ -1,0 +1,144 @@
+// What is noted from line to line, in 64 words: how many lines of each kind there were, how many numbers were compared
+// and how many differ, and where the rows of a query and the nodes of a tree stand.
+ghost use mathlib.Core.Path.{_≡_};
+ghost use Prim.Native.Nat.{_≤_, _<_};
+ghost use lib.ListN.{length};
+
+// The lines of each kind.
+pub const POOLS: usize = 0;
+
+pub const INSERTS: usize = 1;
+
+pub const INSERTS_INCLUDED: usize = 2;
+
+pub const DELETES: usize = 3;
+
+pub const DELETES_INCLUDED: usize = 4;
+
+pub const DELETES_MIN: usize = 5;
+
+pub const DELETES_MAX: usize = 6;
+
+pub const CLEARS: usize = 7;
+
+pub const QUERIES: usize = 8;
+
+pub const QUERIES_INCLUDED: usize = 9;
+
+pub const ROWS: usize = 10;
+
+pub const TREES: usize = 11;
+
+pub const NODES: usize = 12;
+
+pub const ENDS: usize = 13;
+
+pub const UNKNOWN: usize = 14;
+
+// The numbers that were compared, and those that differ.
+pub const COMPARED: usize = 15;
+
+pub const DIFFERENCES: usize = 16;
+
+// How many words of the room are the pool.
+pub const WORDS: usize = 17;
+
+// The rows of the latest query, and how many of them were compared.
+pub const ROWS_DUE: usize = 18;
+
+pub const ROWS_DONE: usize = 19;
+
+// How many nodes of a tree are pending, and where the first of them is noted.
+pub const PENDING: usize = 20;
+
+pub const FIRST_PENDING: usize = 32;
+
+// One more of what is counted.
+pub fn count(notes: &mut [u64], what: usize)
+    requires { ⌜ what < length (now notes) ⌝ }
+{
+    let n = notes[what];
+    if n < u64::MAX {
+        notes[what] = n + 1;
+    }
+}
+
+// Compares what an entry told with what is recorded.
+pub fn compare(notes: &mut [u64], told: u64, recorded: u64)
+    requires { ⌜ length (now notes) ≡ 64 ⌝ }
+{
+    count(notes, COMPARED);
+    if told != recorded {
+        count(notes, DIFFERENCES);
+    }
+}
+
+// Compares words of the pool or of the rows with the numbers of a line.
+pub fn compare_words(notes: &mut [u64], told: &[u64], line: &[u64])
+    requires { ⌜ (length (now told) ≤ length (now line)) × (length (now notes) ≡ 64) ⌝ }
+{
+    let mut i = 0;
+    while i < told.len() {
+        compare(notes, told[i], line[i]);
+        i += 1;
+    }
+}
+
+// Notes a number.
+pub fn put(notes: &mut [u64], what: usize, n: u64)
+    requires { ⌜ what < length (now notes) ⌝ }
+{
+    notes[what] = n;
+}
+
+// One more node is pending, where there is one. A tree so high that there is no room for it is a difference.
+pub fn push(notes: &mut [u64], slot: u64)
+    requires { ⌜ length (now notes) ≡ 64 ⌝ }
+{
+    let pending = notes[PENDING];
+    if slot == 0 {
+        return;
+    }
+    if pending < 32 {
+        notes[FIRST_PENDING + pending as usize] = slot;
+        notes[PENDING] = pending + 1;
+    } else {
+        count(notes, DIFFERENCES);
+    }
+}
+
+// Takes the latest pending node, 0 where none is.
+pub fn pop(notes: &mut [u64]) -> u64
+    requires { ⌜ length (now notes) ≡ 64 ⌝ }
+{
+    let pending = notes[PENDING];
+    if pending == 0 {
+        return 0;
+    }
+    if pending > 32 {
+        return 0;
+    }
+    let left = pending - 1;
+    put(notes, PENDING, left);
+    notes[FIRST_PENDING + left as usize]
+}
+
+// Whether all rows and nodes that were due have been compared.
+fn is_settled(notes: &[u64]) -> bool
+    requires { ⌜ length (now notes) ≡ 64 ⌝ }
+{
+    notes[ROWS_DONE] == notes[ROWS_DUE] && notes[PENDING] == 0
+}
+
+// Before a line that is neither a row nor a node: what is due and was not compared is a difference.
+pub fn settle(notes: &mut [u64])
+    requires { ⌜ length (now notes) ≡ 64 ⌝ }
+{
+    let settled = is_settled(notes);
+    put(notes, ROWS_DUE, 0);
+    put(notes, ROWS_DONE, 0);
+    put(notes, PENDING, 0);
+    if !settled {
+        count(notes, DIFFERENCES);
+    }
+}

@@ -2,3 +2,4 @@
 pub mod Guarded
 pub mod Answering
 pub mod Telling
+pub mod Asking

@@ -159,7 +159,7 @@ fn query(words: &[u64], key: Interval, rows: &mut [u64]) -> usize
 }
 
 // The range of a request, unless its end is past the last number.
-fn range_to(bound: End, start: u64, end: u64) -> Included
+pub fn range_to(bound: End, start: u64, end: u64) -> Included
     ensures { λ r. ⌜ included-of r ≡ range-to (end-of bound) start end ⌝ }
 {
     match bound {

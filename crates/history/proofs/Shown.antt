@@ -7,13 +7,14 @@ use mathlib.Core.Path.{_≡_, sym, ap, _∙_}
 use lib.ListN.{length}
 use Rattle.rules.specs.Pool.{capacity}
 use Rattle.rules.specs.Request.{querying}
-use Rattle.rules.specs.Entries.{Edited, format, edit, apply, feed}
+use Rattle.rules.specs.Entries.{Edited, Queried, format, edit, query, apply, feed}
 use Rattle.rules.specs.History.{Event, formatting, asking, applying, feeding, history, account-event}
 use Rattle.rules.specs.Calls.{call, calls}
 use Rattle.rules.proofs.Applying.{apply-any-run, query-asked}
 use Rattle.rules.proofs.Demand.{after, rows-after, Demand, demand}
+use Rattle.held.specs.Records.{words-of}
 use Rattle.hindraloha.specs.Entries.{end-of-flag}
-use Rattle.history.specs.Host.{Called, by-format, by-insert, by-delete, by-delete-min, by-delete-max, by-clear, by-query, by-apply, by-feed, Reached, formatted, then-called}
+use Rattle.history.specs.Host.{Called, by-format, by-insert, by-delete, by-delete-min, by-delete-max, by-clear, by-query, by-query-records, by-apply, by-feed, Reached, formatted, then-called}
 
 -- What is promised of the words that a host has after a formatting and any calls: they are the words of `Demand`, so all
 -- that it says of contents, queries, "full", the check and the size is said of them; and whichever call comes next, by
@@ -23,6 +24,15 @@ pub record Promise (ws : List ℕ) (events : List Event) (now : List ℕ) : Type
   pub demanded : Demand ws events
   pub next-answer : {then : List ℕ} {event : Event} {number : ℕ} → Called now then event number →
       number ≡ account-event (capacity (length ws)) event (rows-after ws events) .number
+
+-- a query by its contract is the rules' call, whatever run is lent
+query-is : {after : List ℕ} {answer : Queried} (a b f : ℕ) (before run : List ℕ)
+    → answer ≡ query (end-of-flag f) a b before run → after ≡ before
+    → _≡_ {A = Edited} (record { number = answer .number; words = after }) (call (asking (querying (end-of-flag f) a b)) before)
+unfolding call
+query-is a b f before run e same =
+    let asked = query-asked (end-of-flag f) a b before run in
+    λ i. record { number = (ap (λ x. x .number) e ∙ sym (asked .0)) i; words = (same ∙ sym (asked .1)) i }
 
 -- a call by its contract is the rules' call: its number and all words left
 call-is : {before after : List ℕ} {event : Event} {number : ℕ} → Called before after event number →
@@ -34,9 +44,8 @@ call-is (by-delete r a b f e) = e
 call-is (by-delete-min r e) = e
 call-is (by-delete-max r e) = e
 call-is (by-clear r e) = e
-call-is {before} (by-query r a b f rows written e same) =
-    let asked = query-asked (end-of-flag f) a b before rows in
-    λ i. record { number = (ap (λ x. x .number) e ∙ sym (asked .0)) i; words = (same ∙ sym (asked .1)) i }
+call-is {before} (by-query r a b f rows written e same) = query-is a b f before rows e same
+call-is {before} (by-query-records r a b f rows written e same) = query-is a b f before (words-of rows) e same
 call-is {before} (by-apply r bytes rows written e) =
     let any = apply-any-run bytes before rows in
     λ i. record { number = (ap (λ x. x .number) e ∙ any .0) i; words = (ap (λ x. x .words) e ∙ any .1) i }

@@ -6,6 +6,8 @@ use Rattle.rules.specs.Balance.{left, right}
 use Rattle.rules.specs.Request.{Request, inserting, deleting, deleting-end, clearing, querying}
 use Rattle.rules.specs.Entries.{format, edit, query, apply, feed}
 use Rattle.rules.specs.History.{Event, formatting, asking, applying, feeding}
+use Rattle.held.specs.Records.{words-of}
+use Rattle.held.specs.declared.Hit.{Hit}
 use Rattle.hindraloha.specs.Entries.{end-of-flag, edited, queried, applied, fed}
 use Rattle.hindraloha.specs.declared.Answer.{Answer}
 use Rattle.hindraloha.specs.declared.Hits.{Hits}
@@ -29,6 +31,9 @@ pub data Called (before after : List ℕ) : Event → ℕ → Type 0 where
   by-clear : (r : Answer) → edited r after ≡ edit clearing before → Called before after (asking clearing) (r .number)
   by-query : (r : Hits) (start end flag : ℕ) (rows written : List ℕ) →
       queried r written ≡ query (end-of-flag flag) start end before rows → after ≡ before →
+      Called before after (asking (querying (end-of-flag flag) start end)) (r .number)
+  by-query-records : (r : Hits) (start end flag : ℕ) (rows written : List Hit) →
+      queried r (words-of written) ≡ query (end-of-flag flag) start end before (words-of rows) → after ≡ before →
       Called before after (asking (querying (end-of-flag flag) start end)) (r .number)
   by-apply : (r : Taken) (bytes rows written : List ℕ) → applied r after written ≡ apply bytes before rows →
       Called before after (applying bytes) (r .number)

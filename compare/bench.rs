@@ -53,7 +53,7 @@ fn row(what: &str, pair: &Pair, count: usize) {
 
 /// Measures the load of 4,000 entries.
 fn times(repeats: usize) {
-    let mut scene = Scene::new(ENTRIES, QUERIES, SLOTS);
+    let scene = Scene::new(ENTRIES, QUERIES, SLOTS);
     println!(
         "hits of a query on average: {:.2}; repetitions: {repeats}; nanoseconds of processor time",
         scene.compare()
@@ -65,7 +65,9 @@ fn times(repeats: usize) {
     row("feed of the inserts alone, a record", &scene.feeds(false, repeats), edits / 2);
     let walks = scene.walks(repeats);
     row("walk, a query", &walks, QUERIES as usize);
+    row("walk by records, beside by words", &scene.records(repeats), QUERIES as usize);
     row("query entry with its check, a query", &scene.entries(ENTERED, repeats), ENTERED);
+    row("query entry by records, beside by words", &scene.record_entries(ENTERED, repeats), ENTERED);
     let checks = scene.checks(10 * repeats);
     row("check, beside a plain check in Rust", &checks, 1);
     let walk = walks.minima().each(QUERIES as usize).library;
@@ -82,7 +84,7 @@ fn growth(repeats: usize, file: &str) {
     println!("| entries | hits | feed | crate | ratio | walk | crate | ratio | check | plain | ratio |");
     println!("|---|---|---|---|---|---|---|---|---|---|---|");
     for entries in GROWTH {
-        let mut scene = Scene::new(entries, QUERIES / 5, entries as usize);
+        let scene = Scene::new(entries, QUERIES / 5, entries as usize);
         let hits = scene.compare();
         let feed = scene.feeds(true, repeats).minima().each(2 * entries as usize);
         let walk = scene.walks(repeats).minima().each(QUERIES as usize / 5);

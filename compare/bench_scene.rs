@@ -39,16 +39,24 @@ impl Scene {
         Scene { load, inserts, edits, pool, tree, rows: vec![0; ROOM] }
     }
 
-    /// Holds the rows of all queries to each other, and gives the hits of one on average.
-    pub fn compare(&mut self) -> f64 {
-        let mut others = self.rows.clone();
+    /// Holds the rows of all queries, in both forms, through the entry and behind it, to the crate's, and gives the hits
+    /// of one on average.
+    pub fn compare(&self) -> f64 {
+        let forms = [
+            sides::bench_library_walk,
+            sides::bench_library_query,
+            sides::bench_library_records,
+            sides::bench_library_query_records,
+        ];
         let mut sum = 0;
         for query in self.load.queries.chunks(1) {
+            let mut others = [0; ROOM];
             let hits = sides::bench_crate_query(&self.tree, query, &mut others);
-            let walked = sides::bench_library_walk(&self.pool, query, &mut self.rows);
-            assert!(hits == walked && self.rows == others, "the walk gives the crate's rows");
-            let entered = sides::bench_library_query(&self.pool, query, &mut self.rows);
-            assert!(hits == entered && self.rows == others, "the entry gives the crate's rows");
+            for form in forms {
+                let mut rows = [0; ROOM];
+                let counted = form(&self.pool, query, &mut rows);
+                assert!(hits == counted && rows == others, "the library gives the crate's rows");
+            }
             sum += hits;
         }
         sum as f64 / self.load.queries.len() as f64
@@ -102,6 +110,27 @@ impl Scene {
         )
     }
 
+    /// All queries by records, and on the walk, which writes words.
+    pub fn records(&self, repeats: usize) -> Pair {
+        let (mut rows, mut others) = (self.rows.clone(), self.rows.clone());
+        Pair::take(
+            repeats,
+            || time(|| sides::bench_library_records(&self.pool, &self.load.queries, &mut rows)),
+            || time(|| sides::bench_library_walk(&self.pool, &self.load.queries, &mut others)),
+        )
+    }
+
+    /// The first so many queries through the entry by records, and through the one by words.
+    pub fn record_entries(&self, queries: usize, repeats: usize) -> Pair {
+        let (mut rows, mut others) = (self.rows.clone(), self.rows.clone());
+        let queries = &self.load.queries[..queries];
+        Pair::take(
+            repeats,
+            || time(|| sides::bench_library_query_records(&self.pool, queries, &mut rows)),
+            || time(|| sides::bench_library_query(&self.pool, queries, &mut others)),
+        )
+    }
+
     /// One check of the pool, and the plain one.
     pub fn checks(&self, repeats: usize) -> Pair {
         Pair::take(
@@ -120,6 +149,7 @@ impl Scene {
                 "library-feed" => keep(sides::bench_library_feed(&mut pools[turn], &self.edits)),
                 "library-inserts" => keep(sides::bench_library_feed(&mut pools[turn], &self.inserts)),
                 "library-walk" => keep(sides::bench_library_walk(&self.pool, &self.load.queries, &mut self.rows)),
+                "library-records" => keep(sides::bench_library_records(&self.pool, &self.load.queries, &mut self.rows)),
                 "library-check" => keep(sides::bench_library_check(&self.pool)),
                 "crate-feed" => sides::bench_crate_feed(&mut trees[turn], &self.load, true),
                 "crate-inserts" => sides::bench_crate_feed(&mut trees[turn], &self.load, false),

@@ -1,5 +1,5 @@
-//! The two sides: the crate, and the library's entries with the walk behind them. Each measured function has a plain
-//! name, so that callgrind can be told to count in it alone.
+//! The two sides: the crate, and the library's entries with the two forms of a query behind them. Each measured function
+//! has a plain name, so that callgrind can be told to count in it alone.
 
 use crate::load::{Ends, Load};
 use meminterval::{Interval, IntervalTree};
@@ -22,6 +22,9 @@ struct Records {
     taken: usize,
 }
 
+/// The words of a row, and of a record that holds one.
+const ROW_WORDS: usize = 3;
+
 /// A lent run as the functions behind the entries take it: where it is and how long.
 #[repr(C)]
 struct Run {
@@ -43,6 +46,15 @@ extern "C" {
         rows: *mut u64,
         room: usize,
     ) -> Hits;
+    fn hindraloha_query_records(
+        pool: *const u64,
+        len: usize,
+        start: u64,
+        end: u64,
+        included: u8,
+        rows: *mut u64,
+        room: usize,
+    ) -> Hits;
     fn hindraloha_feed(out: *mut Records, pool: *mut u64, len: usize, bytes: *const u8, count: usize) -> *mut Records;
     fn hindraloha_apply(
         out: *mut Records,
@@ -54,12 +66,14 @@ extern "C" {
         room: usize,
     ) -> *mut Records;
     fn bench_walk(slots: *const Run, root: u64, query: *const Ends, rows: *const Run) -> usize;
+    fn bench_records(slots: *const Run, root: u64, query: *const Ends, rows: *const Run) -> usize;
 }
 
-/// A run of words as the functions behind the entries take it.
-fn run(words: &[u64]) -> Run {
-    Run { at: words.as_ptr(), len: words.len() }
-}
+/// One form of a query's entry.
+type Entry = unsafe extern "C" fn(*const u64, usize, u64, u64, u8, *mut u64, usize) -> Hits;
+
+/// One form of a query behind its entry.
+type Behind = unsafe extern "C" fn(*const Run, u64, *const Ends, *const Run) -> usize;
 
 /// Formats a pool.
 #[no_mangle]
@@ -108,21 +122,48 @@ pub fn bench_crate_feed(tree: &mut Tree, load: &Load, deletes: bool) {
     }
 }
 
-/// Queries through the library's entry, which checks the pool each time: the hits of all.
-#[no_mangle]
-#[inline(never)]
-pub fn bench_library_query(pool: &[u64], queries: &[Ends], rows: &mut [u64]) -> usize {
-    let (at, room) = (rows.as_mut_ptr(), rows.len());
-    let ask = |ends: &Ends| unsafe { hindraloha_query(pool.as_ptr(), pool.len(), ends[0], ends[1], 0, at, room) };
+/// Queries through an entry, which checks the pool each time and counts its room in so many words: the hits of all.
+#[inline(always)]
+fn entered(entry: Entry, unit: usize, pool: &[u64], queries: &[Ends], rows: &mut [u64]) -> usize {
+    let (at, room) = (rows.as_mut_ptr(), rows.len() / unit);
+    let ask = |ends: &Ends| unsafe { entry(pool.as_ptr(), pool.len(), ends[0], ends[1], 0, at, room) };
     queries.iter().map(ask).map(|answer| if answer.number == 0 { answer.hits } else { 0 }).sum()
 }
 
-/// Queries on the walk behind the entry: the hits of all.
+/// Queries behind an entry, where room is counted in so many words: the hits of all.
+#[inline(always)]
+fn walked(query: Behind, unit: usize, pool: &[u64], queries: &[Ends], rows: &mut [u64]) -> usize {
+    let slots = Run { at: pool[4..].as_ptr(), len: pool.len() - 4 };
+    let lent = Run { at: rows.as_mut_ptr(), len: rows.len() / unit };
+    queries.iter().map(|ends| unsafe { query(&slots, pool[0], ends, &lent) }).sum()
+}
+
+/// Queries through the entry that writes rows as words.
+#[no_mangle]
+#[inline(never)]
+pub fn bench_library_query(pool: &[u64], queries: &[Ends], rows: &mut [u64]) -> usize {
+    entered(hindraloha_query, 1, pool, queries, rows)
+}
+
+/// Queries through the entry that writes rows as records.
+#[no_mangle]
+#[inline(never)]
+pub fn bench_library_query_records(pool: &[u64], queries: &[Ends], rows: &mut [u64]) -> usize {
+    entered(hindraloha_query_records, ROW_WORDS, pool, queries, rows)
+}
+
+/// Queries on the walk behind the entry that writes words.
 #[no_mangle]
 #[inline(never)]
 pub fn bench_library_walk(pool: &[u64], queries: &[Ends], rows: &mut [u64]) -> usize {
-    let (slots, lent) = (run(&pool[4..]), run(rows));
-    queries.iter().map(|ends| unsafe { bench_walk(&slots, pool[0], ends, &lent) }).sum()
+    walked(bench_walk, 1, pool, queries, rows)
+}
+
+/// Queries on the walk behind the entry that writes records.
+#[no_mangle]
+#[inline(never)]
+pub fn bench_library_records(pool: &[u64], queries: &[Ends], rows: &mut [u64]) -> usize {
+    walked(bench_records, ROW_WORDS, pool, queries, rows)
 }
 
 /// Queries on the crate, the same rows written: the hits of all.
@@ -135,7 +176,7 @@ pub fn bench_crate_query(tree: &Tree, queries: &[Ends], rows: &mut [u64]) -> usi
 /// One query on the crate: writes as many rows as fit, and counts all hits.
 fn crate_rows(tree: &Tree, ends: &Ends, rows: &mut [u64]) -> usize {
     let mut hits = 0;
-    let mut room = rows.chunks_exact_mut(3);
+    let mut room = rows.chunks_exact_mut(ROW_WORDS);
     for entry in tree.query(Interval::new(ends[0], ends[1])) {
         if let Some(row) = room.next() {
             row.copy_from_slice(&[entry.interval.start, entry.interval.end, *entry.value]);

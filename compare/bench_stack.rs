@@ -78,11 +78,15 @@ fn report() {
     let asked = record(9, &whole);
     let entered = depth(&mut || keep(sides::bench_library_query(&pool, &[whole], &mut rows)));
     let applied = depth(&mut || keep(sides::library_apply(&mut copy, &asked, &mut rows)));
+    let by_records = depth(&mut || keep(sides::bench_library_query_records(&pool, &[whole], &mut rows)));
     let query = entered.max(applied);
     let deepest = |records: &dyn Fn(u64) -> Vec<u8>| places.iter().map(|place| deeper(&pool, &records(*place))).max();
     let insert = deepest(&|place| record(3, &[10 * place + 1, 10 * place + 2, 0])).unwrap_or(0);
     let delete = deepest(&|place| record(5, &[10 * place, 10 * place + 10])).unwrap_or(0);
-    println!("bytes of stack at height {HEIGHT}: check {check}, query {query}, insert {insert}, delete {delete}");
+    println!(
+        "bytes of stack at height {HEIGHT}: check {check}, query {query}, query by records {by_records}, insert \
+         {insert}, delete {delete}"
+    );
 }
 
 /// Reports from a thread whose stack is larger than what is painted.

@@ -3,8 +3,9 @@
  *
  * A frame is its length in bytes, the number of words of a pool, these words, and calls, each on the pool as the one
  * before left it. All of a frame is read before its first call is made. A call is the seven numbers of `Call`, then the
- * words of the rows and the bytes that it lends. What comes back of it is the three numbers of `Left`, then the words of
- * the pool, the words of the rows and the bytes as they are after it.
+ * words of the rows and the bytes that it lends; structs for rows are lent as their words, three of each. What comes back
+ * of it is the three numbers of `Left`, then the words of the pool, the words of the rows and the bytes as they are after
+ * it.
  *
  * Each run that is lent ends where memory begins that can't be touched, and marked bytes stand before it. */
 #define _DEFAULT_SOURCE
@@ -110,8 +111,10 @@ static Left make(const Call *call, uint64_t *pool, size_t length, uint64_t *rows
     case 8: return height(hindraloha_height(pool, length));
     case 9: return count(hindraloha_is_empty(pool, length));
     case 10: return hits(hindraloha_query(pool, length, call->start, call->end, included, rows, call->rows_length));
-    case 11: return taken(hindraloha_apply(pool, length, bytes, call->bytes_length, rows, call->rows_length));
-    case 12: return records(hindraloha_feed(pool, length, bytes, call->bytes_length));
+    case 11: return hits(hindraloha_query_records(pool, length, call->start, call->end, included,
+                                                  (HindralohaHit *)rows, call->rows_length / 3));
+    case 12: return taken(hindraloha_apply(pool, length, bytes, call->bytes_length, rows, call->rows_length));
+    case 13: return records(hindraloha_feed(pool, length, bytes, call->bytes_length));
     default: stop("a call of no entry");
     }
     return (Left){0, 0, 0};

@@ -1,5 +1,5 @@
 # Reads the entries' declarations from the Rattle sources, the Rust declarations or the C header, and prints one line for
-# each entry, NAME(ARGUMENT TYPE, ..) ANSWER, and for each answer, ANSWER{FIELD TYPE, ..}, types by their Rust names.
+# each entry, NAME(ARGUMENT TYPE, ..) ANSWER, and for each struct, STRUCT{FIELD TYPE, ..}, types by their Rust names.
 
 # The text without blanks at either end.
 function trimmed(text) {
@@ -11,6 +11,7 @@ function trimmed(text) {
 function rust_type(type) {
     if (type == "size_t") return "usize"
     if (sub(/^uint/, "u", type) || sub(/^int/, "i", type)) sub(/_t$/, "", type)
+    sub(/^Hindraloha/, "", type)
     return type
 }
 
@@ -65,21 +66,19 @@ function print_entries(text, form,    found, answer) {
     while (match(text, form)) {
         found = substr(text, RSTART, RLENGTH)
         text = substr(text, RSTART + RLENGTH)
-        answer = name_of(found, in_c ? "^[A-Za-z]+" : "[A-Za-z]+$")
-        sub(/^Hindraloha/, "", answer)
+        answer = rust_type(name_of(found, in_c ? "^[A-Za-z]+" : "[A-Za-z]+$"))
         print name_of(found, "hindraloha_[a-z_]+") "(" parts(between(found, "(", ")"), ",") ") " answer
     }
 }
 
-# Prints every place of the text that has the form of an answer.
-function print_answers(text, form,    found, answer) {
+# Prints every place of the text that has the form of a struct.
+function print_structs(text, form,    found, name) {
     while (match(text, form)) {
         found = substr(text, RSTART, RLENGTH)
         text = substr(text, RSTART + RLENGTH)
-        answer = name_of(found, "[A-Z][A-Za-z]+ *[{]")
-        sub(/^Hindraloha/, "", answer)
-        sub(/ *[{]/, "", answer)
-        print answer "{" parts(between(found, "{", "}"), in_c ? ";" : ",") "}"
+        name = rust_type(name_of(found, "[A-Z][A-Za-z]+ *[{]"))
+        sub(/ *[{]/, "", name)
+        print name "{" parts(between(found, "{", "}"), in_c ? ";" : ",") "}"
     }
 }
 
@@ -97,5 +96,5 @@ END {
     in_c = FILENAME ~ /\.h$/
     entry = "hindraloha_[a-z_]+[(][^)]*[)]"
     print_entries(all, in_c ? "Hindraloha[A-Za-z]+ " entry ";" : entry " -> [A-Za-z]+")
-    print_answers(all, in_c ? "typedef struct Hindraloha[A-Za-z]+ *[{][^}]*[}]" : "#\\[repr[(]C[)]\\] pub struct [A-Za-z]+ *[{][^}]*[}]")
+    print_structs(all, in_c ? "typedef struct Hindraloha[A-Za-z]+ *[{][^}]*[}]" : "#\\[repr[(]C[)]\\] pub struct [A-Za-z]+ *[{][^}]*[}]")
 }

@@ -9,13 +9,14 @@
  *     int main(void)
  *     {
  *         uint64_t pool[HINDRALOHA_POOL_WORDS(2)];
- *         uint64_t rows[3 * 2];
+ *         HindralohaHit rows[2];
  *         hindraloha_format(pool, HINDRALOHA_POOL_WORDS(2));
  *         hindraloha_insert(pool, HINDRALOHA_POOL_WORDS(2), 10, 20, HINDRALOHA_EXCLUDED, 7);
  *         hindraloha_insert(pool, HINDRALOHA_POOL_WORDS(2), 30, 39, HINDRALOHA_INCLUDED, 8);
- *         HindralohaHits found = hindraloha_query(pool, HINDRALOHA_POOL_WORDS(2), 0, 15, HINDRALOHA_EXCLUDED, rows, 6);
+ *         HindralohaHits found =
+ *             hindraloha_query_records(pool, HINDRALOHA_POOL_WORDS(2), 0, 15, HINDRALOHA_EXCLUDED, rows, 2);
  *         for (size_t row = 0; row < found.hits && row < 2; row++)
- *             printf("%ju %ju %ju\n", (uintmax_t)rows[3 * row], (uintmax_t)rows[3 * row + 1], (uintmax_t)rows[3 * row + 2]);
+ *             printf("%ju %ju %ju\n", (uintmax_t)rows[row].start, (uintmax_t)rows[row].end, (uintmax_t)rows[row].value);
  *         return (int)found.number;
  *     }
  *
@@ -27,9 +28,9 @@
  * larger start is below the smaller end, so 0..5 and 5..9 do not. Empty and inverted ranges may be stored, and overlap
  * nothing.
  *
- * Lent memory. Runs never overlap each other. A run is given by a pointer and a number of words or bytes. The pointer
- * may not be null, not even where that number is 0, and a pointer to words is aligned for them. A pool may be copied,
- * stored and lent again elsewhere: it holds no addresses.
+ * Lent memory. Runs never overlap each other. A run is given by a pointer and a number of words, bytes or hits. The
+ * pointer may not be null, not even where that number is 0, and a pointer to words or hits is aligned for them. A pool
+ * may be copied, stored and lent again elsewhere: it holds no addresses.
  *
  * What is left. Each call looks at the whole pool first. A call that is answered with 10 or more is refused: it leaves
  * every word of every run as it was, and its counts are 0, but for a feed, whose earlier records stand. 1 and 2 are no
@@ -93,6 +94,13 @@ typedef struct HindralohaHits {
     size_t hits;
 } HindralohaHits;
 
+/* A stored range that a query overlaps, and its value. */
+typedef struct HindralohaHit {
+    uint64_t start;
+    uint64_t end;
+    uint64_t value;
+} HindralohaHit;
+
 /* A number, the bytes that an applied record took, and its hits: 0 and 0 on refusal. */
 typedef struct HindralohaTaken {
     uint64_t number;
@@ -143,6 +151,11 @@ HindralohaCount hindraloha_is_empty(const uint64_t *pool, size_t pool_length);
  * after the last row stay. 0, 10, 11 or 12. */
 HindralohaHits hindraloha_query(const uint64_t *pool, size_t pool_length, uint64_t start, uint64_t end,
                                 uint8_t included, uint64_t *rows, size_t rows_length);
+
+/* The same query, which writes the first hits to `rows` as structs: as many as fit, in the same order. `rows_length`
+ * counts structs, and those after the last one written stay. 0, 10, 11 or 12. */
+HindralohaHits hindraloha_query_records(const uint64_t *pool, size_t pool_length, uint64_t start, uint64_t end,
+                                        uint8_t included, HindralohaHit *rows, size_t rows_length);
 
 /* Reads one record and does what it says; bytes after it are ignored. Only a query (kind 9) writes to `rows` and has
  * hits, as `hindraloha_query` does. 0, 1, 2, or any refusal.

@@ -40,7 +40,8 @@ find_emulator() {
     unpack "$c_out/qemu" download qemu-user-static
 }
 
-# Finds a compiler and, where the machine is another one, an emulator; the compiler may be Debian's, unpacked.
+# Finds a compiler and, where the machine is another one, an emulator; the compiler may be Debian's, unpacked. It looks for
+# its assembler beside itself alone, so that is unpacked too where the machine has one.
 find_compiler() {
     compiler=${CC:-cc} compiler_static='' compiler_libraries=${LD_LIBRARY_PATH:-} emulator=
     if [ "$(uname -m)" != x86_64 ]; then
@@ -48,7 +49,8 @@ find_compiler() {
         compiler=x86_64-linux-gnu-gcc compiler_static=-static
         works || {
             mkdir -p "$c_out"
-            unpack "$c_out/gcc" install gcc-x86-64-linux-gnu libc6-dev-amd64-cross || return 1
+            unpack "$c_out/gcc" --reinstall install gcc-x86-64-linux-gnu binutils-x86-64-linux-gnu libc6-dev-amd64-cross ||
+                return 1
             compiler=$PWD/$c_out/gcc/usr/bin/x86_64-linux-gnu-gcc
             compiler_libraries=$PWD/$c_out/gcc/usr/lib/$(uname -m)-linux-gnu
         }

@@ -1,10 +1,21 @@
 //! The bridge (`compare/bridge.c`) under way: a program that links the library and may be for another kind of machine.
-//! The source of it says what its frames are.
+//! The source of it says what its frames are. Every query that goes over it is asked twice, for rows as words and for
+//! rows as records, and both forms have to give and leave the same.
 
 use crate::call::{Call, Given};
 use model::{Edit, Span};
 use std::io::{BufReader, Read, Write};
 use std::process::{Child, ChildStdin, ChildStdout, Command, Stdio};
+use std::sync::atomic::{AtomicU64, Ordering};
+
+/// The entry that answers a query by records, and how many queries were asked of it.
+const QUERY_RECORDS: u64 = 11;
+static ASKED_BY_RECORDS: AtomicU64 = AtomicU64::new(0);
+
+/// How many queries were asked by records as well as by words, over all bridges.
+pub fn asked_by_records() -> u64 {
+    ASKED_BY_RECORDS.load(Ordering::Relaxed)
+}
 
 pub struct Bridge {
     child: Child,
@@ -27,8 +38,8 @@ fn asked(call: &Call) -> (u64, Span, u64) {
         Call::Height => (8, no_span, 0),
         Call::IsEmpty => (9, no_span, 0),
         Call::Query(span, _) => (10, *span, 0),
-        Call::Apply(..) => (11, no_span, 0),
-        Call::Feed(_) => (12, no_span, 0),
+        Call::Apply(..) => (12, no_span, 0),
+        Call::Feed(_) => (13, no_span, 0),
     }
 }
 
@@ -47,13 +58,24 @@ fn add_words<'a>(frame: &mut Vec<u8>, words: impl IntoIterator<Item = &'a u64>) 
     frame.extend(words.into_iter().flat_map(|word| word.to_le_bytes()));
 }
 
-/// Adds a call to a frame.
+/// The entries by which a call is made, and the rows that each is lent: for a query first words and then as many whole
+/// records as these are.
+fn forms(call: &Call) -> Vec<(u64, &[u64])> {
+    let (entry, rows) = (asked(call).0, call.rows());
+    match call {
+        Call::Query(..) => vec![(entry, rows), (QUERY_RECORDS, &rows[..rows.len() / 3 * 3])],
+        _ => vec![(entry, rows)],
+    }
+}
+
+/// Adds a call to a frame, in all of its forms.
 fn add_call(frame: &mut Vec<u8>, call: &Call) {
-    let (entry, span, value) = asked(call);
-    let (rows, bytes) = (call.rows(), call.bytes());
-    let numbers = [entry, rows.len() as u64, bytes.len() as u64, span.start, span.end, flag(span), value];
-    add_words(frame, numbers.iter().chain(rows));
-    frame.extend(bytes);
+    let ((_, span, value), bytes) = (asked(call), call.bytes());
+    for (entry, rows) in forms(call) {
+        let numbers = [entry, rows.len() as u64, bytes.len() as u64, span.start, span.end, flag(span), value];
+        add_words(frame, numbers.iter().chain(rows));
+        frame.extend(bytes);
+    }
 }
 
 impl Bridge {
@@ -90,12 +112,29 @@ impl Bridge {
         bytes.chunks_exact(8).map(|word| u64::from_le_bytes(word.try_into().expect("eight bytes"))).collect()
     }
 
-    /// Takes what the next call that was sent gave, and changes the pool's words to those that it left. What it was lent
-    /// for reading has to be as before.
+    /// Takes what the next call that was sent gave, and changes the pool's words to those that it left. A query by
+    /// records has to give what it gave by words.
     pub fn take(&mut self, call: &Call, words: &mut Vec<u64>) -> Given {
+        let given = self.take_form(call, call.rows().len(), words);
+        for (_, rows) in &forms(call)[1..] {
+            let by_records = self.take_form(call, rows.len(), words);
+            let whole_rows = given.rows[..rows.len()].to_vec();
+            let by_words = Given { number: given.number, counts: given.counts, rows: whole_rows };
+            assert!(
+                by_records == by_words,
+                "{call:?} on {words:?}:\n  by words: {by_words:?}\n  by records: {by_records:?}"
+            );
+            ASKED_BY_RECORDS.fetch_add(1, Ordering::Relaxed);
+        }
+        given
+    }
+
+    /// Takes what one form of a call gave, which was lent so many words for rows. What it was lent for reading has to be
+    /// as before.
+    fn take_form(&mut self, call: &Call, room: usize, words: &mut Vec<u64>) -> Given {
         let given = self.words(3);
         let left = self.words(words.len());
-        let rows = self.words(call.rows().len());
+        let rows = self.words(room);
         assert!(
             self.bytes(call.bytes().len()) == call.bytes(),
             "a byte that was lent for reading is changed: {call:?}"

@@ -86,12 +86,20 @@ fn answer(words: &[String]) -> Result<String, String> {
     }
 }
 
+/// How many queries the library answered by records as by words, as the end of a line; nothing where it took no part.
+fn by_records() -> String {
+    match bridge::asked_by_records() {
+        0 => String::new(),
+        asked => format!("; {asked} queries by records as by words"),
+    }
+}
+
 /// Prints the answer, or what differs, and then fails.
 fn main() -> ExitCode {
     let words: Vec<String> = std::env::args().skip(1).collect();
     match answer(&words) {
         Ok(line) => {
-            println!("{line}");
+            println!("{line}{}", by_records());
             ExitCode::SUCCESS
         }
         Err(line) => {

@@ -1,4 +1,4 @@
-/* Document 01's examples 8, 9, 11 and 12 and a feed, from C. It prints how many facts hold, or the first that doesn't. */
+/* Document 01's examples 8, 9, 11 and 12, rows and a feed, from C. It prints how many facts hold, or the first that doesn't. */
 #include "hindraloha.h"
 #include <stdio.h>
 #include <stdlib.h>
@@ -24,6 +24,12 @@ static void holds(int fact, const char *words, int line)
 static int same(const uint64_t *run, const uint64_t *words, size_t length)
 {
     return memcmp(run, words, length * sizeof *run) == 0;
+}
+
+/* Whether a hit has these three numbers. */
+static int is_hit(HindralohaHit hit, uint64_t start, uint64_t end, uint64_t value)
+{
+    return hit.start == start && hit.end == end && hit.value == value;
 }
 
 /* Example 8: a pool of one slot, and that "already there" goes before "full". */
@@ -84,12 +90,15 @@ static void lengths(void)
     static const size_t wrong[] = {0, 4, 15, 24575}, right[] = {10, 24574};
     static uint64_t pool[24575];
     uint64_t rows[1];
+    HindralohaHit hits[1];
     uint8_t bytes[1] = {8};
     for (size_t nth = 0; nth < 4; nth++) {
         memset(pool, 0xA5, sizeof pool);
         HOLDS(hindraloha_format(pool, wrong[nth]).number == HINDRALOHA_WRONG_LENGTH);
         HOLDS(hindraloha_check(pool, wrong[nth]).number == HINDRALOHA_WRONG_LENGTH);
         HOLDS(hindraloha_query(pool, wrong[nth], 0, 9, HINDRALOHA_EXCLUDED, rows, 0).number == HINDRALOHA_WRONG_LENGTH);
+        HOLDS(hindraloha_query_records(pool, wrong[nth], 0, 9, HINDRALOHA_EXCLUDED, hits, 0).number ==
+              HINDRALOHA_WRONG_LENGTH);
         HOLDS(hindraloha_apply(pool, wrong[nth], bytes, 1, rows, 0).number == HINDRALOHA_WRONG_LENGTH);
         HOLDS(hindraloha_feed(pool, wrong[nth], bytes, 0).number == HINDRALOHA_WRONG_LENGTH);
         HOLDS(pool[0] == 0xA5A5A5A5A5A5A5A5 && memcmp(pool, pool + 1, sizeof pool - sizeof *pool) == 0);
@@ -98,19 +107,58 @@ static void lengths(void)
         HOLDS(hindraloha_format(pool, right[nth]).number == HINDRALOHA_DONE);
 }
 
+/* Makes a pool of three slots with 0..5 and 5..9 in it. */
+static void fill_touching(uint64_t *pool)
+{
+    hindraloha_format(SLOTS(3));
+    hindraloha_insert(SLOTS(3), 0, 5, HINDRALOHA_EXCLUDED, 1);
+    hindraloha_insert(SLOTS(3), 5, 9, HINDRALOHA_EXCLUDED, 2);
+}
+
 /* Rows: all hits are counted, and only whole rows are written. */
 static void rows(void)
 {
     static const uint64_t first[] = {0, 5, 1, 77, 77, 77};
     uint64_t pool[HINDRALOHA_POOL_WORDS(3)];
-    hindraloha_format(SLOTS(3));
-    hindraloha_insert(SLOTS(3), 0, 5, HINDRALOHA_EXCLUDED, 1);
-    hindraloha_insert(SLOTS(3), 5, 9, HINDRALOHA_EXCLUDED, 2);
+    fill_touching(pool);
     for (size_t room = 0; room < 6; room++) {
         uint64_t run[] = {77, 77, 77, 77, 77, 77};
         HOLDS(hindraloha_query(SLOTS(3), 4, 6, HINDRALOHA_EXCLUDED, run, room).hits == 2);
         HOLDS(same(run, room < 3 ? first + 3 : first, 3) && same(run + 3, first + 3, 3));
     }
+}
+
+/* Rows as structs: with an end excluded and included, and with room for none, for some and for more than there are. */
+static void structs(void)
+{
+    uint64_t pool[HINDRALOHA_POOL_WORDS(3)];
+    fill_touching(pool);
+    for (size_t room = 0; room <= 3; room++) {
+        HindralohaHit run[] = {{77, 77, 77}, {77, 77, 77}, {77, 77, 77}};
+        HindralohaHits found = hindraloha_query_records(SLOTS(3), 4, 6, HINDRALOHA_EXCLUDED, run, room);
+        HOLDS(found.number == HINDRALOHA_DONE && found.hits == 2);
+        HOLDS(room > 0 ? is_hit(run[0], 0, 5, 1) : is_hit(run[0], 77, 77, 77));
+        HOLDS(room > 1 ? is_hit(run[1], 5, 9, 2) : is_hit(run[1], 77, 77, 77));
+        HOLDS(is_hit(run[2], 77, 77, 77));
+        HOLDS(hindraloha_query_records(SLOTS(3), 0, 5, HINDRALOHA_EXCLUDED, run, room).hits == 1);
+        HOLDS(hindraloha_query_records(SLOTS(3), 0, 5, HINDRALOHA_INCLUDED, run, room).hits == 2);
+        HOLDS(hindraloha_query_records(SLOTS(3), 9, 9, HINDRALOHA_INCLUDED, run, room).hits == 0);
+    }
+}
+
+/* A refused query by structs has no hits and leaves them all. */
+static void structs_refused(void)
+{
+    uint64_t pool[HINDRALOHA_POOL_WORDS(3)];
+    HindralohaHit run[] = {{77, 77, 77}};
+    fill_touching(pool);
+    HindralohaHits found = hindraloha_query_records(SLOTS(3), 0, LAST, 255, run, 1);
+    HOLDS(found.number == HINDRALOHA_LAST_POSITION_INCLUDED && found.hits == 0);
+    found = hindraloha_query_records(SLOTS(2), 0, 9, HINDRALOHA_EXCLUDED, run, 1);
+    HOLDS(found.number == HINDRALOHA_UNSOUND && found.hits == 0);
+    found = hindraloha_query_records(pool, HINDRALOHA_POOL_WORDS(3) - 1, 0, LAST, HINDRALOHA_INCLUDED, run, 1);
+    HOLDS(found.number == HINDRALOHA_WRONG_LENGTH && found.hits == 0);
+    HOLDS(is_hit(run[0], 77, 77, 77));
 }
 
 /* A feed: records before the refused one stand, and the counts say how far it came. */
@@ -145,7 +193,9 @@ int main(void)
     words();
     lengths();
     rows();
+    structs();
+    structs_refused();
     feed();
-    printf("C: examples 8, 9, 11 and 12, rows and a feed, %u facts hold\n", facts);
+    printf("C: examples 8, 9, 11 and 12, rows as words and as structs, and a feed, %u facts hold\n", facts);
     return 0;
 }

@@ -28,6 +28,14 @@ pub struct Hits {
     pub hits: usize,
 }
 
+/// A stored range that a query overlaps, and its value.
+#[repr(C)]
+pub struct Hit {
+    pub start: u64,
+    pub end: u64,
+    pub value: u64,
+}
+
 /// A number, the bytes that an applied record took, and its hits.
 #[repr(C)]
 pub struct Taken {
@@ -70,6 +78,15 @@ extern "C" {
         end: u64,
         included: u8,
         rows: *mut u64,
+        rows_length: usize,
+    ) -> Hits;
+    pub fn hindraloha_query_records(
+        pool: *const u64,
+        pool_length: usize,
+        start: u64,
+        end: u64,
+        included: u8,
+        rows: *mut Hit,
         rows_length: usize,
     ) -> Hits;
     pub fn hindraloha_apply(

@@ -1,7 +1,7 @@
 //! Pools, and what can be asked of one without changing it.
 
 use crate::refusal::outcome;
-use crate::rows::{FIRST_ROWS, ROW_WORDS};
+use crate::rows::FIRST_ROWS;
 use crate::{ffi, Refusal, Row, Rows, Span};
 
 /// The most slots of a pool.
@@ -155,8 +155,8 @@ impl<W: AsRef<[u64]>> Pool<W> {
         Rows::gathered(FIRST_ROWS, |rows| self.query_into(span, rows))
     }
 
-    /// Writes the first rows of a query to a lent list, as many as fit, and gives the number of hits, all counted. It
-    /// takes no memory.
+    /// Writes the first rows of a query to a lent list, as many as fit, and gives the number of hits, all counted. Rows
+    /// that are left over stay. It takes no memory.
     ///
     /// ```
     /// use hindraloha::{Pool, Row};
@@ -166,14 +166,36 @@ impl<W: AsRef<[u64]>> Pool<W> {
     /// pool.insert(5..9, 2)?;
     /// let mut first = [Row::default()];
     /// assert_eq!(pool.query_into(4..6, &mut first)?, 2);
-    /// assert_eq!(first[0].value, 1);
+    /// assert_eq!(first, [Row { start: 0, end: 5, value: 1 }]);
     /// # Ok::<(), hindraloha::Refusal>(())
     /// ```
     pub fn query_into(&self, range: impl Into<Span>, rows: &mut [Row]) -> Result<usize, Refusal> {
         let (words, Span { start, end, included }) = (self.words(), range.into());
-        let (first, length) = (rows.as_mut_ptr().cast::<u64>(), ROW_WORDS * rows.len());
-        // SAFETY: pointers and lengths are those of two slices that don't overlap, a row being three words; the call
-        // reads the pool and writes the rows.
+        let (first, length) = (rows.as_mut_ptr().cast::<ffi::Hit>(), rows.len());
+        // SAFETY: pointers and lengths are those of two slices that don't overlap, a row having the same fields as a
+        // hit; the call reads the pool and writes the rows.
+        let found = unsafe {
+            ffi::hindraloha_query_records(words.as_ptr(), words.len(), start, end, u8::from(included), first, length)
+        };
+        outcome(found.number).map(|_| found.hits)
+    }
+
+    /// Does the same with a lent run of words, three for each row: start, end and value. Words that are left over stay.
+    ///
+    /// ```
+    /// let mut pool = hindraloha::Pool::new(3)?;
+    /// pool.insert(0..5, 1)?;
+    /// pool.insert(5..9, 2)?;
+    /// let mut first = [77; 5];
+    /// assert_eq!(pool.query_words(4..6, &mut first)?, 2);
+    /// assert_eq!(first, [0, 5, 1, 77, 77]);
+    /// # Ok::<(), hindraloha::Refusal>(())
+    /// ```
+    pub fn query_words(&self, range: impl Into<Span>, rows: &mut [u64]) -> Result<usize, Refusal> {
+        let (words, Span { start, end, included }) = (self.words(), range.into());
+        let (first, length) = (rows.as_mut_ptr(), rows.len());
+        // SAFETY: pointers and lengths are those of two slices that don't overlap; the call reads the pool and writes
+        // the rows.
         let found = unsafe {
             ffi::hindraloha_query(words.as_ptr(), words.len(), start, end, u8::from(included), first, length)
         };

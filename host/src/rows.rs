@@ -1,7 +1,9 @@
 //! The rows of a query.
 
+use crate::ffi::Hit;
 use crate::Refusal;
 use std::iter::FusedIterator;
+use std::mem::size_of;
 use std::vec::IntoIter;
 
 /// One stored range that a query overlaps, and its value.
@@ -31,7 +33,7 @@ pub(crate) const ROW_WORDS: usize = 3;
 /// The rows that a query has room for at first; only one with more hits asks twice.
 pub(crate) const FIRST_ROWS: usize = 64;
 
-const _: () = assert!(std::mem::size_of::<Row>() == ROW_WORDS * std::mem::size_of::<u64>());
+const _: () = assert!(size_of::<Row>() == ROW_WORDS * size_of::<u64>() && size_of::<Row>() == size_of::<Hit>());
 
 /// The rows of a query, all of them, in the order in which the tree is visited. It holds no part of the pool.
 ///

@@ -8,7 +8,8 @@ compile_error!("the feature stand-in is for tests: it puts a model in place of t
 #[path = "../../compare/model/lib.rs"]
 mod model;
 
-use crate::ffi::{Answer, Count, Height, Hits, Records, Taken};
+use crate::ffi::{Answer, Count, Height, Hit, Hits, Records, Taken};
+use crate::rows::ROW_WORDS;
 use model::entry::{self, Applied, Fed, Measured, Queried};
 use model::{Edit, Span};
 use std::slice::{from_raw_parts, from_raw_parts_mut};
@@ -106,6 +107,19 @@ pub unsafe extern "C" fn hindraloha_query(
     let rows = from_raw_parts_mut(rows, rows_length);
     let Queried { number, hits } = entry::query(from_raw_parts(pool, pool_length), span(start, end, included), rows);
     Hits { number, hits: hits as usize }
+}
+
+/// The model's query, with the words of its rows as structs.
+pub unsafe extern "C" fn hindraloha_query_records(
+    pool: *const u64,
+    pool_length: usize,
+    start: u64,
+    end: u64,
+    included: u8,
+    rows: *mut Hit,
+    rows_length: usize,
+) -> Hits {
+    hindraloha_query(pool, pool_length, start, end, included, rows.cast::<u64>(), ROW_WORDS * rows_length)
 }
 
 /// The model's apply.

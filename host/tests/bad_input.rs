@@ -40,6 +40,7 @@ fn why<T>(result: Result<T, Refusal>) -> Option<Refusal> {
 fn all_refused<W: AsRef<[u64]> + AsMut<[u64]>>(pool: &mut Pool<W>, reason: Refusal) {
     let before = pool.words().to_vec();
     let mut rows = [Row { start: 1, end: 2, value: 3 }; 4];
+    let mut row_words = [77; 12];
     let looked = [
         why(pool.check()),
         why(pool.size()),
@@ -47,6 +48,7 @@ fn all_refused<W: AsRef<[u64]> + AsMut<[u64]>>(pool: &mut Pool<W>, reason: Refus
         why(pool.is_empty()),
         why(pool.query(0..=LAST)),
         why(pool.query_into(0..9, &mut rows)),
+        why(pool.query_words(0..9, &mut row_words)),
         why(Pool::over(pool.words())),
     ];
     let edited = [
@@ -59,12 +61,13 @@ fn all_refused<W: AsRef<[u64]> + AsMut<[u64]>>(pool: &mut Pool<W>, reason: Refus
         why(pool.apply(Record::query(0..9))),
         why(pool.feed([]).map_err(|stopped| stopped.refusal)),
     ];
-    assert_eq!(looked, [Some(reason); 7]);
+    assert_eq!(looked, [Some(reason); 8]);
     assert_eq!(edited, [Some(reason); 8]);
     let nothing = Fed { records: 0, bytes: 0 };
     assert_eq!(pool.feed(Record::clear()), Err(FeedStopped { refusal: reason, fed: nothing }));
     assert_eq!(pool.words(), before);
     assert_eq!(rows, [Row { start: 1, end: 2, value: 3 }; 4]);
+    assert_eq!(row_words, [77; 12]);
 }
 
 /// Only 4 + 6c words for 1 to 4,095 slots can be a pool.
@@ -130,6 +133,27 @@ fn bytes() {
                 assert_eq!(pool.words(), before, "kind {kind} and {after_kind} bytes");
             }
         }
+    }
+}
+
+/// A list and a run of words get the same rows, as many as fit; what is left over stays.
+#[test]
+fn room() {
+    let mut pool = Pool::new(20).expect("20 slots");
+    for start in 0..20 {
+        pool.insert(start..=start + 2, 100 + start).expect("a free slot");
+    }
+    let all: Vec<Row> = pool.query(5..=9).expect("a sound pool").collect();
+    let left_over = Row { start: 77, end: 77, value: 77 };
+    for room in 0..all.len() + 3 {
+        let mut rows = vec![left_over; room];
+        let mut words = vec![77; 3 * room + room % 3];
+        assert_eq!(pool.query_into(5..=9, &mut rows), Ok(all.len()));
+        assert_eq!(pool.query_words(5..=9, &mut words), Ok(all.len()));
+        let expected: Vec<Row> = all.iter().copied().chain([left_over; 3]).take(room).collect();
+        assert_eq!(rows, expected);
+        let as_words = expected.iter().flat_map(|row| [row.start, row.end, row.value]);
+        assert_eq!(words, as_words.chain(std::iter::repeat(77)).take(words.len()).collect::<Vec<u64>>());
     }
 }
 

@@ -14,7 +14,7 @@ use Rattle.rules.specs.Pool.{first}
 use Rattle.rules.specs.Stored.{slot-word, Within, Freed, Chained, ends, goes-on}
 use Rattle.rules.proofs.Tests.{eq-cases, and-true, true-and}
 use Rattle.rules.proofs.Times.{times-one, times-cons}
-use Rattle.sound.specs.Slot.{zeros-here}
+use Rattle.clauses.specs.Slot.{zeros-here}
 use Rattle.sound.specs.Claims.{Decides, Room, Flags, Unclaimed, Chain}
 use Rattle.sound.proofs.Marks.{claim-flags, claim-one}
 use Rattle.sound.proofs.Decisions.{not-both, refuted}

@@ -19,10 +19,10 @@ use Rattle.rules.proofs.Once.{Good, good-says, says-good, at-most-once, all-slo
 use Rattle.rules.proofs.Stored.{holds-laid, holds-rooted, laid-holds}
 use Rattle.node.proofs.Few.{inside}
 use Rattle.node.proofs.Trees.{at-root}
-use Rattle.sound.specs.Slot.{header-here}
+use Rattle.clauses.specs.Slot.{header-here}
 use Rattle.sound.specs.Claims.{Decides, IsSound, Room, Flags, Unclaimed, Claimed, Grown, Ready, Judged, Chain}
-use Rattle.sound.proofs.Bounds.{bound-none}
-use Rattle.sound.proofs.Heads.{RightHeader, header-says, says-header}
+use Rattle.clauses.proofs.Bounds.{bound-none}
+use Rattle.clauses.proofs.Heads.{RightHeader, header-says, says-header}
 use Rattle.sound.proofs.Counts.{chained-inside, all-once}
 use Rattle.sound.proofs.Decisions.{not-both, refuted}
 use Rattle.sound.proofs.Grows.{stored-once}

@@ -10,7 +10,7 @@ use Rattle.rules.specs.Tree.{Tree, entries}
 use Rattle.rules.specs.Pool.{Pool, Holds, ascending, balanced, slots, times, first}
 use Rattle.rules.specs.Stored.{Rooted, Chained}
 use Rattle.node.specs.Node.{levels-at}
-use Rattle.sound.specs.Slot.{bound}
+use Rattle.clauses.specs.Slot.{bound}
 
 -- "Sound means" that some pool is held
 abbrev pub IsSound : List ℕ → Type 0

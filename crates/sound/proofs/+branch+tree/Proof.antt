@@ -16,10 +16,10 @@ use Rattle.sound.proofs.tree.Reads as tree
 use Rattle.sound.proofs.tree.Kinds as tree-kinds
 use Rattle.sound.proofs.+branch+tree.Lts-tree as tree-lts
 use Rattle.sound.proofs.claim.Reads as claim-reads
-use Rattle.sound.proofs.fits.Reads as fits-reads
-use Rattle.sound.proofs.in_order.Reads as in-order-reads
-use Rattle.sound.proofs.left.Reads as left-reads
-use Rattle.sound.proofs.right.Reads as right-reads
+use Rattle.clauses.proofs.fits.Reads as fits-reads
+use Rattle.clauses.proofs.in_order.Reads as in-order-reads
+use Rattle.clauses.proofs.left.Reads as left-reads
+use Rattle.clauses.proofs.right.Reads as right-reads
 use Rattle.sound.proofs.+branch+tree.{statement}
 use Rattle.sound.proofs.+branch+tree.Tie.{close}
 

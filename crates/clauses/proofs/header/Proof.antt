@@ -1,9 +1,9 @@
 -- `header` is the test of the header. Assumes nothing.
 use borrow.Author.Tests.{le-leb, lt-leb}
-use Rattle.sound.specs.Slot.{header-here}
+use Rattle.clauses.specs.Slot.{header-here}
 use borrow.Author.Needs.{needs}
-use Rattle.sound.proofs.header.Statement.{statement}
-use Rattle.sound.proofs.header.Tie as tie
+use Rattle.clauses.proofs.header.Statement.{statement}
+use Rattle.clauses.proofs.header.Tie as tie
 
 shared-slice-read-root : tie.Need-shared-slice-read-root
 shared-slice-read-root c = search needs

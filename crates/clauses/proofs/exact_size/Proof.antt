@@ -1,11 +1,11 @@
 -- `exact_size` is the test of the size. Assumes nothing.
 use Prim.Native.Nat.{_^_, _<_}
-use Rattle.sound.specs.Slot.{exact-size}
+use Rattle.clauses.specs.Slot.{exact-size}
 use native.Mathlib.Omega.{arith}
-use Rattle.sound.proofs.Sizes.{size-small}
+use Rattle.clauses.proofs.Sizes.{size-small}
 use borrow.Author.Needs.{needs}
-use Rattle.sound.proofs.exact_size.Statement.{statement}
-use Rattle.sound.proofs.exact_size.Tie as tie
+use Rattle.clauses.proofs.exact_size.Statement.{statement}
+use Rattle.clauses.proofs.exact_size.Tie as tie
 
 word-requires : tie.Need-word-requires
 word-requires c κs = search needs

@@ -8,7 +8,7 @@ use borrow.Author.Tests.{eqb-true, eq-eqb, leb-true, le-leb}
 use Rattle.rules.specs.Limits.{most-pending, slot-words}
 use Rattle.rules.proofs.Tests.{and-true, true-and}
 use Rattle.node.specs.Node.{levels-at, size-at}
-use Rattle.sound.specs.Slot.{header-here}
+use Rattle.clauses.specs.Slot.{header-here}
 
 -- the header passes its test
 pub record RightHeader (ws ss : List ℕ) : Type 0 where

@@ -1,8 +1,8 @@
 -- `exact_max` is the test of the max. Assumes nothing.
-use Rattle.sound.specs.Slot.{exact-max}
+use Rattle.clauses.specs.Slot.{exact-max}
 use borrow.Author.Needs.{needs}
-use Rattle.sound.proofs.exact_max.Statement.{statement}
-use Rattle.sound.proofs.exact_max.Tie as tie
+use Rattle.clauses.proofs.exact_max.Statement.{statement}
+use Rattle.clauses.proofs.exact_max.Tie as tie
 
 max-end-requires : tie.Need-max-end-requires
 max-end-requires c κs = search needs

@@ -11,7 +11,7 @@ use Rattle.rules.specs.Limits.{slot-words, half}
 use Rattle.rules.specs.Stored.{slot-word}
 use Rattle.rules.proofs.Tests.{and-true, true-and}
 use Rattle.node.specs.Node.{levels-at, size-at, max-at}
-use Rattle.sound.specs.Slot.{left-in, right-in, exact-height, exact-size, exact-max, fits-here}
+use Rattle.clauses.specs.Slot.{left-in, right-in, exact-height, exact-size, exact-max, fits-here}
 
 -- the words of slot k are right over its children
 pub record Fitting (ss : List ℕ) (k : ℕ) : Type 0 where

@@ -12,7 +12,7 @@ use Rattle.rules.proofs.Tests.{eq-cases}
 use Rattle.interval.specs.Interval.{range-of, order-of}
 use Rattle.interval.specs.declared.Interval.{Interval}
 use Rattle.interval.specs.declared.Ordering.{Ordering}
-use Rattle.sound.specs.Slot.{entry-in, bound}
+use Rattle.clauses.specs.Slot.{entry-in, bound}
 
 -- the entry in a slot is a bound, and none is none
 pub bound-some : (ss : List ℕ) (k : ℕ) → (k ≡ 0 → ⊥) → bound ss k ≡ entry-in ss k ∷ []

@@ -1,10 +1,10 @@
 -- `exact_height` is the test of the height and the factor. Assumes nothing.
-use Rattle.sound.specs.Slot.{exact-height}
+use Rattle.clauses.specs.Slot.{exact-height}
 use native.Mathlib.Omega.{arith}
-use Rattle.sound.proofs.Sizes.{levels-small}
+use Rattle.clauses.proofs.Sizes.{levels-small}
 use borrow.Author.Needs.{needs}
-use Rattle.sound.proofs.exact_height.Statement.{statement}
-use Rattle.sound.proofs.exact_height.Tie as tie
+use Rattle.clauses.proofs.exact_height.Statement.{statement}
+use Rattle.clauses.proofs.exact_height.Tie as tie
 
 word-requires : tie.Need-word-requires
 word-requires c κs = search needs

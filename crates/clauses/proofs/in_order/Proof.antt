@@ -1,14 +1,14 @@
 -- `in_order` tests the strict order of two entries. Assumes nothing.
-use Rattle.sound.proofs.Bounds.{after-none, before-none, compared}
+use Rattle.clauses.proofs.Bounds.{after-none, before-none, compared}
 use mathlib.Core.List.{_++_}
 use mathlib.Core.Path.{_≡_}
 use borrow.Author.Needs.{needs}
 use Rattle.rules.specs.Pool.{is-less, ascending}
 use Rattle.interval.specs.Interval.{order-of}
 use Rattle.interval.specs.declared.Ordering.{Ordering}
-use Rattle.sound.specs.Slot.{bound}
-use Rattle.sound.proofs.in_order.Statement.{statement}
-use Rattle.sound.proofs.in_order.Tie as tie
+use Rattle.clauses.specs.Slot.{bound}
+use Rattle.clauses.proofs.in_order.Statement.{statement}
+use Rattle.clauses.proofs.in_order.Tie as tie
 
 returns : tie.Need-returns
 returns c =

@@ -1,5 +1,5 @@
 -- What the check asks of one slot, of a free slot and of the header: tests on words. What they say together is shown in
--- proofs/; nothing here is needed to read what the check promises.
+-- the proofs of `sound`; nothing here is needed to read what the check promises.
 use Prim.Native.Nat.{ℕ, _+_, _*_, _%_, _/_, max}
 use mathlib.Core.Bool.{Bool, cond, _&&_}
 use mathlib.Core.List.{List, [], _∷_}

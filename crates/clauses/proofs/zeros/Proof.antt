@@ -1,8 +1,8 @@
 -- `zeros` is the test of a free slot. Assumes nothing.
-use Rattle.sound.specs.Slot.{zeros-here}
+use Rattle.clauses.specs.Slot.{zeros-here}
 use borrow.Author.Needs.{needs}
-use Rattle.sound.proofs.zeros.Statement.{statement}
-use Rattle.sound.proofs.zeros.Tie as tie
+use Rattle.clauses.proofs.zeros.Statement.{statement}
+use Rattle.clauses.proofs.zeros.Tie as tie
 
 word-requires : tie.Need-word-requires
 word-requires c κs = search needs

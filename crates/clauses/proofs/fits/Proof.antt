@@ -1,10 +1,10 @@
 -- `fits` is the test of a slot over its children. Assumes nothing.
-use Rattle.sound.proofs.Nodes.{beyond-words, within-words, exact-fits}
+use Rattle.clauses.proofs.Nodes.{beyond-words, within-words, exact-fits}
 use Prim.Native.Nat.{_*_, _≤_}
 use lib.ListN.{length}
 use borrow.Author.Needs.{needs}
-use Rattle.sound.proofs.fits.Statement.{statement}
-use Rattle.sound.proofs.fits.Tie as tie
+use Rattle.clauses.proofs.fits.Statement.{statement}
+use Rattle.clauses.proofs.fits.Tie as tie
 
 left-requires : tie.Need-left-requires
 left-requires c κs = search needs

@@ -12,11 +12,11 @@ use lib.ListN.{length, length-append, replicate}
 use Rattle.rules.specs.Limits.{most-slots, most-pending}
 use Rattle.rules.specs.Range.{Range}
 use Rattle.rules.specs.Tree.{Entry, Tree, leaf, node}
-use Rattle.rules.specs.Query.{Pending, hits, with-hit, at-start}
+use Rattle.rules.specs.Query.{hits}
+use Rattle.rules.specs.Steps.{Pending, with-hit, at-start, Each, each-none, In-order, all-hits}
 use Rattle.rules.specs.Entries.{rows-into}
 use Rattle.rules.specs.Stored.{slot-word}
-use Rattle.rules.proofs.Pending.{Each, each-none, each-at-start, In-order, in-order-down}
-use Rattle.rules.proofs.Steps.{all-hits}
+use Rattle.rules.proofs.Pending.{each-at-start, in-order-down}
 use Rattle.walk.specs.Walk.{Pends, Hit, no-hit, hit-in, Walkable, next}
 use Rattle.walk.specs.Inside.{with-hit-row}
 use Rattle.walk.proofs.Lines.{no-room}

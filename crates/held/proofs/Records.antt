@@ -11,9 +11,9 @@ use lib.ListN.{length, set, take, length-set}
 use borrow.Author.Tests.{ltb-true, ltb-false}
 use Rattle.rules.specs.Range.{Range}
 use Rattle.rules.specs.Tree.{Entry, Tree}
-use Rattle.rules.specs.Query.{hits, with-hit}
+use Rattle.rules.specs.Query.{hits}
+use Rattle.rules.specs.Steps.{with-hit, all-hits}
 use Rattle.rules.specs.Entries.{rows-into}
-use Rattle.rules.proofs.Steps.{all-hits}
 use Rattle.held.specs.declared.Hit.{Hit}
 use Rattle.held.specs.declared.Filling.{Filling}
 use Rattle.held.specs.Records.{hit-of, records-into, words-of, record-of, is-hit, is-written, Ahead}

@@ -3,7 +3,7 @@ use mathlib.Core.List.{List, [], _∷_}
 use mathlib.Core.Option.{Option, none, some}
 use Prim.Native.Nat.{ℕ}
 use Rattle.rules.specs.Tree.{Entry}
-use Rattle.rules.specs.Query.{Pending, Step}
+use Rattle.rules.specs.Steps.{Pending, Step}
 use Rattle.walk.specs.Walk.{Pends, Hit}
 use Rattle.held.specs.declared.Stack.{Stack}
 

@@ -10,9 +10,8 @@ use lib.ListN.{length}
 use Rattle.rules.specs.Limits.{most-slots}
 use Rattle.rules.specs.Range.{Range}
 use Rattle.rules.specs.Tree.{Entry, Tree}
-use Rattle.rules.specs.Query.{Pending, Step, hits, with-hit}
-use Rattle.rules.proofs.Pending.{Each, In-order}
-use Rattle.rules.proofs.Steps.{all-hits}
+use Rattle.rules.specs.Query.{hits}
+use Rattle.rules.specs.Steps.{Pending, Step, with-hit, Each, In-order, all-hits}
 use Rattle.walk.specs.Walk.{Pends}
 use Rattle.held.specs.declared.Hit.{Hit}
 use Rattle.held.specs.declared.Filling.{Filling}

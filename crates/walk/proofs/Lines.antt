@@ -9,7 +9,7 @@ use native.Mathlib.Omega.{arith}
 use lib.ListN.{length, set}
 use borrow.Author.Tests.{le-leb, lt-leb}
 use Rattle.rules.specs.Tree.{Entry}
-use Rattle.rules.specs.Query.{with-hit}
+use Rattle.rules.specs.Steps.{with-hit}
 use Rattle.rules.specs.Entries.{rows-into}
 use Rattle.rules.specs.Stored.{slot-word, Within}
 use Rattle.rules.proofs.Tests.{le-cases}

@@ -11,11 +11,11 @@ use lib.ListN.{length, take, set, length-append}
 use Rattle.rules.specs.Limits.{most-slots, most-pending}
 use Rattle.rules.specs.Range.{Range}
 use Rattle.rules.specs.Tree.{Entry, Tree, leaf, node}
-use Rattle.rules.specs.Query.{hits, Pending, at-start, with-hit}
+use Rattle.rules.specs.Query.{hits}
+use Rattle.rules.specs.Steps.{Pending, at-start, with-hit, Each, each-none, each-more, In-order, all-hits, total}
 use Rattle.rules.specs.Entries.{rows-into}
 use Rattle.rules.proofs.Hits.{few-hits}
-use Rattle.rules.proofs.Pending.{Each, each-none, each-more, each-at-start, In-order, in-order-down, Fits, fits-down}
-use Rattle.rules.proofs.Steps.{all-hits, total}
+use Rattle.rules.proofs.Pending.{each-at-start, in-order-down, Fits, fits-down}
 use Rattle.node.proofs.Few.{few-entries}
 use Rattle.walk.specs.declared.After.{After}
 use Rattle.walk.specs.Walk.{Pends, Hit, Leaves, next, Walkable}

@@ -11,7 +11,7 @@ use borrow.Author.Tests.{lt-ltb, le-ltb}
 use Rattle.rules.specs.Limits.{most-slots, slot-words, half}
 use Rattle.rules.specs.Range.{Range, range, overlaps}
 use Rattle.rules.specs.Tree.{Entry, Tree, node, max-end, root}
-use Rattle.rules.specs.Query.{step-at}
+use Rattle.rules.specs.Steps.{step-at}
 use Rattle.rules.specs.Stored.{slot-word, Within, Bears, Stored, live}
 use Rattle.rules.proofs.Overlap.{unbegun-misses}
 use Rattle.rules.proofs.Reading.{low-half, high-half, root-fits}

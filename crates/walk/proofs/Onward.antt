@@ -7,9 +7,9 @@ use mathlib.Core.Path.{_≡_, refl, sym, ap, _∙_}
 use native.Mathlib.Omega.{arith}
 use Rattle.rules.specs.Range.{Range}
 use Rattle.rules.specs.Tree.{Entry, Tree, node}
-use Rattle.rules.specs.Query.{Pending, Step, step, with-hit}
-use Rattle.rules.proofs.Pending.{Each, each-none, each-more, Handed-down, each-step, In-order, in-order-down}
-use Rattle.rules.proofs.Steps.{all-hits, total, step-hits, step-falls}
+use Rattle.rules.specs.Steps.{Pending, Step, step, with-hit, Each, each-none, each-more, In-order, all-hits, total}
+use Rattle.rules.proofs.Pending.{Handed-down, each-step, in-order-down}
+use Rattle.rules.proofs.Steps.{step-hits, step-falls}
 use Rattle.walk.specs.Walk.{until-hit, next-within, next}
 
 -- what holds of a step that hit, and of what follows one that did not, holds of the one that ends the search

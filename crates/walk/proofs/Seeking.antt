@@ -9,10 +9,10 @@ use lib.ListN.{length, take}
 use Rattle.rules.specs.Limits.{most-pending, half}
 use Rattle.rules.specs.Range.{Range}
 use Rattle.rules.specs.Tree.{Entry, Tree, node, levels, size}
-use Rattle.rules.specs.Query.{Pending, Step, step}
+use Rattle.rules.specs.Steps.{Pending, Step, step, Each, each-none, each-more, total}
 use Rattle.rules.specs.Stored.{slot-word, Stored, live}
-use Rattle.rules.proofs.Pending.{Each, each-none, each-more, Fits, fits-down}
-use Rattle.rules.proofs.Steps.{total, step-falls}
+use Rattle.rules.proofs.Pending.{Fits, fits-down}
+use Rattle.rules.proofs.Steps.{step-falls}
 use Rattle.walk.specs.declared.After.{After}
 use Rattle.walk.specs.Walk.{stack-of, Waits, Pends, Hit, no-hit, hit-in, Leaves, until-hit, next}
 use Rattle.walk.proofs.Taking.{nothing}

@@ -10,9 +10,9 @@ use lib.Seq.{getD-take, take-take, take-at, getD-at, take-set-le, take-suc-set}
 use borrow.Author.Tests.{ne-eqb}
 use Rattle.rules.specs.Limits.{most-pending}
 use Rattle.rules.specs.Tree.{Entry, Tree, leaf, node, levels, root}
-use Rattle.rules.specs.Query.{Pending, leave, at-start}
+use Rattle.rules.specs.Steps.{Pending, leave, at-start, each-none}
 use Rattle.rules.specs.Stored.{Stored, none, live}
-use Rattle.rules.proofs.Pending.{each-none, each-left}
+use Rattle.rules.proofs.Pending.{each-left}
 use Rattle.walk.specs.Walk.{stack-of, Waits, Pends, Walkable}
 
 -- a word for each pending tree

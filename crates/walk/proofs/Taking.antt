@@ -11,9 +11,8 @@ use lib.ListN.{length, take, getD, set}
 use Rattle.rules.specs.Limits.{most-pending}
 use Rattle.rules.specs.Range.{Range}
 use Rattle.rules.specs.Tree.{Entry, Tree, leaf, node, levels, max-end}
-use Rattle.rules.specs.Query.{Pending, leave, step, step-at, passed-over, skips-right}
+use Rattle.rules.specs.Steps.{Pending, leave, step, step-at, passed-over, skips-right, Each, each-none, each-more}
 use Rattle.rules.specs.Stored.{Stored, none, live}
-use Rattle.rules.proofs.Pending.{Each, each-none, each-more}
 use Rattle.rules.proofs.Tests.{lt-cases}
 use Rattle.walk.specs.declared.Found.{Found}
 use Rattle.walk.specs.Walk.{stack-of, Waits, Pends, no-hit, Leaves}

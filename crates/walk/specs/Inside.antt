@@ -9,7 +9,7 @@ use lib.ListN.{length, set}
 use Rattle.rules.specs.Limits.{most-slots, slot-words}
 use Rattle.rules.specs.Range.{Range}
 use Rattle.rules.specs.Tree.{Entry, Tree, leaf, node, root}
-use Rattle.rules.specs.Query.{step-at, passed-over, skips-right}
+use Rattle.rules.specs.Steps.{step-at, passed-over, skips-right}
 use Rattle.rules.specs.Stored.{Stored}
 use Rattle.walk.specs.declared.Found.{Found}
 use Rattle.walk.specs.Walk.{Hit}

@@ -9,10 +9,8 @@ use Rattle.rules.specs.Limits.{most-slots, most-pending, slot-words}
 use Rattle.rules.specs.Range.{Range}
 use Rattle.rules.specs.Tree.{Entry, Tree, levels, entries, root}
 use Rattle.rules.specs.Pool.{ascending}
-use Rattle.rules.specs.Query.{Pending, Step, step}
+use Rattle.rules.specs.Steps.{Pending, Step, step, Each, total}
 use Rattle.rules.specs.Stored.{Bears, Stored, Rooted}
-use Rattle.rules.proofs.Pending.{Each}
-use Rattle.rules.proofs.Steps.{total}
 use Rattle.walk.specs.declared.After.{After}
 
 -- the slots of pending trees as a stack has them, the latest last

@@ -41,7 +41,8 @@ use denote.Triple.Walked.{says, needs, Stays, stay-none, stay-none-slice, walkOf
 use denote.Exit.{yes}
 use denote.Triple.Clauses.{ensured, lasts}
 use Rattle.rules.specs.Tree.{Tree}
-use Rattle.rules.specs.Query.{Pending, at-start, hits}
+use Rattle.rules.specs.Query.{hits}
+use Rattle.rules.specs.Steps.{Pending, at-start}
 use Rattle.interval.specs.Interval.{range-of}
 use Rattle.interval.specs.declared.Interval.{Interval}
 use Rattle.interval.proofs.Interval as I

@@ -41,7 +41,7 @@ use denote.Triple.Walked.{says, needs, Stays, stay-none, stay-none-slice, walkOf
 use denote.Exit.{yes}
 use denote.Triple.Clauses.{ensured, lasts}
 use Rattle.rules.specs.Tree.{Tree}
-use Rattle.rules.specs.Query.{at-start}
+use Rattle.rules.specs.Steps.{at-start}
 use Rattle.interval.specs.declared.Interval.{Interval}
 use Rattle.interval.proofs.Interval as I
 use Rattle.interval.proofs.Interval.Laws as I′

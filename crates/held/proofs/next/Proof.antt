@@ -41,7 +41,7 @@ use denote.Triple.Table.{entered, cited}
 use denote.Triple.Walked.{says, needs, Stays, stay-none, walkOf, goes-none, Walks, ends-at, walked, walk-meets}
 use denote.Exit.{yes}
 use denote.Triple.Clauses.{ensured, lasts}
-use Rattle.rules.specs.Query.{Pending}
+use Rattle.rules.specs.Steps.{Pending}
 use Rattle.interval.specs.Interval.{range-of}
 use Rattle.interval.proofs.Interval as I
 use Rattle.interval.proofs.Interval.Laws as I′

@@ -3,7 +3,7 @@ use mathlib.Core.Path.{refl}
 use native.Mathlib.Omega.{arith}
 use lib.ListN.{replicate}
 use Rattle.rules.specs.Limits.{most-pending}
-use Rattle.rules.specs.Query.{at-start}
+use Rattle.rules.specs.Steps.{at-start}
 use Rattle.walk.proofs.Stack.{starts}
 use Rattle.held.proofs.Ahead.{ahead-start}
 use Rattle.held.proofs.start.Statement.{statement}

@@ -3,7 +3,7 @@
 use native.Mathlib.Omega.{arith}
 use lib.ListN.{take}
 use Rattle.interval.specs.Interval.{range-of}
-use Rattle.rules.specs.Query.{Pending}
+use Rattle.rules.specs.Steps.{Pending}
 use Rattle.walk.specs.Walk.{Pends}
 use Rattle.walk.proofs.Seeking.{entries-at, Seeks, seek-start, seek-over, seek-on, seek-hit, seek-less}
 use Rattle.walk.proofs.next.Statement.{statement}

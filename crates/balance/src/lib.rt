@@ -98,11 +98,13 @@ pub fn balance(slots: &mut [u64], k: u64, l: u64, r: u64) -> u64
     requires { ⌜ ((e : Entry) × (t : Tree) × (u : Tree) × Hung (now slots) k l r e t u) ⌝ }
     ensures { λ top. ⌜ ((e : Entry) (t u : Tree) → Hung (now (slots .entry)) k l r e t u → stored.Left (now (slots .entry)) (now (slots .exit)) top (balance e t u)) ⌝ }
 {
-    match node::balance_factor(node::height(slots, l), node::height(slots, r)) {
+    let left = node::shape_below(slots, l);
+    let right = node::shape_below(slots, r);
+    match node::balance_factor(node::low(left), node::low(right)) {
         Factor::BelowMinusOne => mend(slots, Side::Right, k, r, l),
         Factor::AboveOne => mend(slots, Side::Left, k, l, r),
         Factor::Between => {
-            node::update(slots, k, l, r);
+            node::update_over(slots, k, l, r, left, right);
             k
         }
     }

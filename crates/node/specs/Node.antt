@@ -21,6 +21,10 @@ levels-at ss s = cond (eqb s 0) 0 (suc (slot-word ss s 5 % half))
 abbrev pub size-at : List ℕ → ℕ → ℕ
 size-at ss s = cond (eqb s 0) 0 (slot-word ss s 5 / half)
 
+-- both, as halves of a word
+abbrev pub below : List ℕ → ℕ → ℕ
+below ss s = levels-at ss s + half * size-at ss s
+
 -- a slot's max, 0 for none
 abbrev pub max-at : List ℕ → ℕ → ℕ
 max-at ss s = cond (eqb s 0) 0 (slot-word ss s 3)

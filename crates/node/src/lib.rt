@@ -8,7 +8,7 @@ ghost use Rattle.rules.specs.Range.{range};
 ghost use Rattle.rules.specs.Limits.{half};
 ghost use Rattle.rules.specs.Stored.{slot-word, Within, Left};
 ghost use Rattle.interval.specs.Interval.{range-of};
-ghost use Rattle.node.specs.Node.{levels-at, size-at, max-at, factor, with-word, with-links, with-entry, entry, Hung, Slot};
+ghost use Rattle.node.specs.Node.{levels-at, size-at, below, max-at, factor, with-word, with-links, with-entry, entry, Hung, Slot};
 
 // Word i of slot k.
 pub fn word(slots: &[u64], k: u64, i: usize) -> u64
@@ -118,13 +118,22 @@ fn update_max(slots: &[u64], k: u64, l: u64, r: u64) -> u64
     )
 }
 
-// The shape over two children: one more than the larger height, and one more than both sizes.
-fn update_shape(slots: &[u64], l: u64, r: u64) -> u64
-    requires { ⌜ (6 * l ≤ length (now slots)) × (6 * r ≤ length (now slots)) × (levels-at (now slots) l < half) × (levels-at (now slots) r < half) × (size-at (now slots) l + size-at (now slots) r + 1 < half) ⌝ }
-    ensures { λ w. ⌜ w ≡ max (levels-at (now (slots .entry)) l) (levels-at (now (slots .entry)) r) + half * (size-at (now (slots .entry)) l + size-at (now (slots .entry)) r + 1) ⌝ }
+// What a parent takes over of the child in slot s: one more than its height, and its size, as halves of a word; 0 for
+// none.
+pub fn shape_below(slots: &[u64], s: u64) -> u64
+    requires { ⌜ (6 * s ≤ length (now slots)) × (levels-at (now slots) s < half) ⌝ }
+    ensures { λ r. ⌜ r ≡ below (now (slots .entry)) s ⌝ }
 {
-    let height = interval::larger(height(slots, l), height(slots, r));
-    let size = size(slots, l) + size(slots, r) + 1;
+    if s == 0 { 0 } else { word(slots, s, 5) + 1 }
+}
+
+// The shape over two children, by what is taken over of each: one more than the larger height, one more than both sizes.
+fn update_shape(left: u64, right: u64) -> u64
+    requires { ⌜ left / half + right / half + 1 < half ⌝ }
+    ensures { λ w. ⌜ w ≡ max (left % half) (right % half) + half * (left / half + right / half + 1) ⌝ }
+{
+    let height = interval::larger(low(left), low(right));
+    let size = high(left) + high(right) + 1;
     pack(height, size)
 }
 
@@ -138,14 +147,24 @@ fn set_links(slots: &mut [u64], k: u64, max: u64, links: u64, shape: u64)
     set_word(slots, k, 5, shape);
 }
 
+// The same as `update`, where what is taken over of the children has been read.
+pub fn update_over(slots: &mut [u64], k: u64, l: u64, r: u64, left: u64, right: u64)
+    requires { ⌜ (left ≡ below (now slots) l) × (right ≡ below (now slots) r) × ((e : Entry) × (a : Tree) × (b : Tree) × Hung (now slots) k l r e a b) ⌝ }
+    ensures { λ _. ⌜ ((e : Entry) (a b : Tree) → Hung (now (slots .entry)) k l r e a b → Left (now (slots .entry)) (now (slots .exit)) k (node e a b)) ⌝ }
+{
+    let max = update_max(slots, k, l, r);
+    let shape = update_shape(left, right);
+    set_links(slots, k, max, pack(l, r), shape);
+}
+
 // Makes l and r the children of the entry in slot k, and its height, size and max exact.
 pub fn update(slots: &mut [u64], k: u64, l: u64, r: u64)
     requires { ⌜ ((e : Entry) × (a : Tree) × (b : Tree) × Hung (now slots) k l r e a b) ⌝ }
     ensures { λ _. ⌜ ((e : Entry) (a b : Tree) → Hung (now (slots .entry)) k l r e a b → Left (now (slots .entry)) (now (slots .exit)) k (node e a b)) ⌝ }
 {
-    let max = update_max(slots, k, l, r);
-    let shape = update_shape(slots, l, r);
-    set_links(slots, k, max, pack(l, r), shape);
+    let left = shape_below(slots, l);
+    let right = shape_below(slots, r);
+    update_over(slots, k, l, r, left, right);
 }
 
 // Makes `start`, `end` and `value` the first three words of slot k.

@@ -5,6 +5,7 @@ use borrow.Author.Needs.{needs}
 use native.Mathlib.Omega.{arith}
 use Rattle.node.specs.Node.{levels-at, factor}
 use Rattle.node.specs.declared.Factor.{Factor}
+use Rattle.node.proofs.Halves.{apart-low}
 use Rattle.balance.proofs.Sides.{hung-turned}
 use Rattle.balance.proofs.Chosen.{ready, right-too-high, balanced-right, left-too-high, balanced-left, balanced-yet}
 use Rattle.balance.proofs.balance.Statement.{statement}
@@ -14,26 +15,40 @@ use Rattle.balance.proofs.balance.Tie as tie
 some-level : {a b : ℕ} → a < b → 1 ≤ b
 some-level h = omega arith
 
-height-requires : tie.Need-height-requires
-height-requires c κs = ready (c .before .before .pre .3) .left-in
+shape-below-requires : tie.Need-shape-below-requires
+shape-below-requires c κs = let ok = ready (c .before .before .pre .3) in (ok .left-in, ok .left-low)
 
-height-requires-2 : tie.Need-height-requires-2
-height-requires-2 c κs = ready (c .before .before .before .before .pre .3) .right-in
+shape-below-requires-2 : tie.Need-shape-below-requires-2
+shape-below-requires-2 c κs = let ok = ready (c .before .before .before .before .pre .3) in (ok .right-in, ok .right-low)
+
+low-requires : tie.Need-low-requires
+low-requires c κs = search needs
+
+low-requires-2 : tie.Need-low-requires-2
+low-requires-2 c κs = search needs
+
+-- where both shapes have been read: from which start, and that their low halves are the stored heights
+abbrev start : tie.After-low2 → tie.Start
+start d = d .before .before .before .before .before .before .before
+
+left-is : (d : tie.After-low2) → let a = start d .args in d .before .low .result ≡ levels-at (a .slots .now) (a .l)
+left-is d =
+    d .before .low .ensures ∙ apart-low _ (d .before .before .before .before .shape-below .ensures) (ready (start d .pre .3) .left-low)
+
+right-is : (d : tie.After-low2) → let a = start d .args in d .low2 .result ≡ levels-at (a .slots .now) (a .r)
+right-is d = d .low2 .ensures ∙ apart-low _ (d .before .before .shape-below2 .ensures) (ready (start d .pre .3) .right-low)
 
 balance-factor-requires : tie.Need-balance-factor-requires
 balance-factor-requires c κs =
-    let d = c .before .before .before .before .before in
-    let ok = ready (d .pre .3) in
-    rw (c .before .before .height .ensures, c .height2 .ensures) (ok .left-low, ok .right-low)
+    let ok = ready (start c .pre .3) in
+    let left = ok .left-low in
+    let right = ok .right-low in
+    (omega (arith, left-is c), omega (arith, right-is c))
 
--- where the factor has been told: from which start, and that it is the factor of the stored heights
-abbrev start : tie.After-balance-factor → tie.Start
-start d = d .before .before .before .before .before .before
-
+-- so the factor that was told is the factor of these
 known : (d : tie.After-balance-factor) {f : Factor} → d .balance-factor .result ≡ f
-    → let a = start d .args in factor (levels-at (a .slots .now) (a .l)) (levels-at (a .slots .now) (a .r)) ≡ f
-known d told =
-    rw (← d .before .before .before .height .ensures, ← d .before .height2 .ensures) (sym (d .balance-factor .ensures) ∙ told)
+    → let a = start (d .before) .args in factor (levels-at (a .slots .now) (a .l)) (levels-at (a .slots .now) (a .r)) ≡ f
+known d told = rw (← left-is (d .before), ← right-is (d .before)) (sym (d .balance-factor .ensures) ∙ told)
 
 enum-told : tie.Need-enum-told
 enum-told c = search needs
@@ -41,7 +56,7 @@ enum-told c = search needs
 mend-requires : tie.Need-mend-requires
 mend-requires c κs =
     let d = c .before .before .before in
-    let p = start d .pre in
+    let p = start (d .before) .pre in
     (p .0, p .2, p .1, hung-turned (p .3), some-level (right-too-high (p .3) (known d (c .before .enum-told .given .1))))
 
 enum-told-2 : tie.Need-enum-told-2
@@ -50,14 +65,16 @@ enum-told-2 c = search needs
 mend-requires-2 : tie.Need-mend-requires-2
 mend-requires-2 c κs =
     let d = c .before .before .before in
-    let p = start d .pre in
+    let p = start (d .before) .pre in
     (p .0, p .1, p .2, p .3, some-level (left-too-high (p .3) (known d (c .before .enum-told2 .given .1))))
 
 enum-told-3 : tie.Need-enum-told-3
 enum-told-3 c = search needs
 
-update-requires : tie.Need-update-requires
-update-requires c κs = search needs
+update-over-requires : tie.Need-update-over-requires
+update-over-requires c κs =
+    let d = c .before .before .before .before in
+    (d .before .before .before .before .shape-below .ensures, d .before .before .shape-below2 .ensures, start d .pre)
 
 same-length : tie.Need-same-length
 same-length c = search needs
@@ -84,21 +101,23 @@ returns-3 : tie.Need-returns-3
 returns-3 c e t u h =
     let d = c .before .before .before .before .before .before in
     let told = known d (c .before .before .before .before .enum-told3 .given .1) in
-    balanced-yet h told (c .before .before .update .ensures e t u h)
+    balanced-yet h told (c .before .before .update-over .ensures e t u h)
 
 pub balance-spec : {M : Type 1} → statement M
 balance-spec =
     tie.close
     (tie.spec
-    height-requires
-    height-requires-2
+    shape-below-requires
+    shape-below-requires-2
+    low-requires
+    low-requires-2
     balance-factor-requires
     enum-told
     mend-requires
     enum-told-2
     mend-requires-2
     enum-told-3
-    update-requires
+    update-over-requires
     same-length
     returns
     same-length-2

@@ -1,12 +1,12 @@
 // The recorded list of the oracle, run through the entries line by line: every answer, size, height, row and shape is
 // compared. compare/recorded/README.md has the list's format.
+mod by_records;
 mod edits;
-mod line;
+pub mod line;
 pub mod notes;
 mod queries;
 mod shapes;
 
-ghost use mathlib.Core.Path.{_≡_};
 ghost use Prim.Native.Nat.{_≤_};
 ghost use lib.ListN.{length};
 
@@ -30,13 +30,16 @@ fn in_use(room: &[u64], words: u64) -> usize
 }
 
 // Obeys a line on the pool.
-fn obey(pool: &mut [u64], rows: &mut [u64], letter: u8, line: &[u64], notes: &mut [u64])
-    requires { ⌜ (length (now line) ≡ 10) × (length (now notes) ≡ 64) ⌝ }
-{
+fn obey(
+    pool: &mut [u64],
+    rows: &mut [u64],
+    letter: u8,
+    line: &line::Line,
+    notes: &mut notes::Notes,
+) {
     match letter {
-        b'q' => queries::query(pool, rows, line, notes, 0),
-        b'p' => queries::query(pool, rows, line, notes, 1),
-        b'r' => queries::row(rows, line, notes),
+        b'q' | b'p' => queries::query(pool, rows, line, notes, line::included(letter)),
+        b'r' => queries::row(pool, rows, line, notes),
         b's' => shapes::tree(pool, line, notes),
         b'n' => shapes::node(pool, line, notes),
         b'z' | 0 => {}
@@ -46,9 +49,7 @@ fn obey(pool: &mut [u64], rows: &mut [u64], letter: u8, line: &[u64], notes: &mu
 
 // Notes a line before it is obeyed: what is due ends with any line but a row or a node, and a fresh pool has words of its
 // own.
-fn note(letter: u8, line: &[u64], notes: &mut [u64])
-    requires { ⌜ (length (now line) ≡ 10) × (length (now notes) ≡ 64) ⌝ }
-{
+fn note(letter: u8, line: &line::Line, notes: &mut notes::Notes) {
     notes::count(notes, line::counter(letter));
     match letter {
         b'r' | b'n' => {}
@@ -61,9 +62,7 @@ fn note(letter: u8, line: &[u64], notes: &mut [u64])
 }
 
 // Obeys a line on the pool in the room.
-fn take_line(room: &mut [u64], rows: &mut [u64], line: &[u64], notes: &mut [u64])
-    requires { ⌜ (length (now line) ≡ 10) × (length (now notes) ≡ 64) ⌝ }
-{
+fn take_line(room: &mut [u64], rows: &mut [u64], line: &line::Line, notes: &mut notes::Notes) {
     let letter = line::letter(line);
     note(letter, line, notes);
     let n = in_use(room, notes[notes::WORDS]);
@@ -71,9 +70,13 @@ fn take_line(room: &mut [u64], rows: &mut [u64], line: &[u64], notes: &mut [u64]
 }
 
 // Takes in a byte, and obeys the line at its end.
-fn take_byte(byte: u8, room: &mut [u64], rows: &mut [u64], line: &mut [u64], notes: &mut [u64])
-    requires { ⌜ (length (now line) ≡ 10) × (length (now notes) ≡ 64) ⌝ }
-{
+fn take_byte(
+    byte: u8,
+    room: &mut [u64],
+    rows: &mut [u64],
+    line: &mut line::Line,
+    notes: &mut notes::Notes,
+) {
     if byte == b'\n' {
         take_line(room, rows, line, notes);
         line::clear(line);
@@ -83,9 +86,13 @@ fn take_byte(byte: u8, room: &mut [u64], rows: &mut [u64], line: &mut [u64], not
 }
 
 // Takes in bytes of the list, from where those before left off. At its start all words of `line` and `notes` are 0.
-pub fn take(bytes: &[u8], room: &mut [u64], rows: &mut [u64], line: &mut [u64], notes: &mut [u64])
-    requires { ⌜ (length (now line) ≡ 10) × (length (now notes) ≡ 64) ⌝ }
-{
+pub fn take(
+    bytes: &[u8],
+    room: &mut [u64],
+    rows: &mut [u64],
+    line: &mut line::Line,
+    notes: &mut notes::Notes,
+) {
     let mut i = 0;
     while i < bytes.len() {
         take_byte(bytes[i], room, rows, line, notes);

@@ -1,9 +1,10 @@
 // A line of a list, taken in byte by byte: words 0 to 7 are its numbers, word 8 is its letter, and word 9 counts the
 // numbers.
 use crate::notes;
-ghost use mathlib.Core.Path.{_≡_};
 ghost use Prim.Native.Nat.{_<_};
-ghost use lib.ListN.{length};
+
+// The words of a line.
+pub type Line = [u64; 10];
 
 const LETTER: usize = 8;
 
@@ -23,9 +24,7 @@ fn appended(n: u64, digit: u64) -> u64
 }
 
 // Takes in a digit of number i.
-fn take_digit(line: &mut [u64], i: usize, byte: u8)
-    requires { ⌜ length (now line) ≡ 10 ⌝ }
-{
+fn take_digit(line: &mut Line, i: usize, byte: u8) {
     if i < 8 {
         if byte >= b'0' {
             if byte <= b'9' {
@@ -38,9 +37,7 @@ fn take_digit(line: &mut [u64], i: usize, byte: u8)
 }
 
 // Begins number i.
-fn take_space(line: &mut [u64], i: u64)
-    requires { ⌜ length (now line) ≡ 10 ⌝ }
-{
+fn take_space(line: &mut Line, i: u64) {
     if i < 8 {
         line[i as usize] = 0;
         line[NUMBERS] = i + 1;
@@ -50,9 +47,7 @@ fn take_space(line: &mut [u64], i: u64)
 }
 
 // Takes in a byte of the line: its letter first, then a space before each number and digits.
-pub fn take(line: &mut [u64], byte: u8)
-    requires { ⌜ length (now line) ≡ 10 ⌝ }
-{
+pub fn take(line: &mut Line, byte: u8) {
     let letter = line[LETTER];
     let count = line[NUMBERS];
     if letter == 0 {
@@ -67,9 +62,7 @@ pub fn take(line: &mut [u64], byte: u8)
 }
 
 // Begins a line.
-pub fn clear(line: &mut [u64])
-    requires { ⌜ length (now line) ≡ 10 ⌝ }
-{
+pub fn clear(line: &mut Line) {
     line[LETTER] = 0;
     line[NUMBERS] = 0;
 }
@@ -89,9 +82,7 @@ fn numbers(letter: u8) -> u64 {
 }
 
 // The line's letter, or 0 where it is of no known kind or has more or fewer numbers than it should.
-pub fn letter(line: &[u64]) -> u8
-    requires { ⌜ length (now line) ≡ 10 ⌝ }
-{
+pub fn letter(line: &Line) -> u8 {
     let word = line[LETTER];
     if word > 255 {
         return 0;
@@ -101,6 +92,14 @@ pub fn letter(line: &[u64]) -> u8
         return 0;
     }
     letter
+}
+
+// The flag of an included end, by the letter: 1 where the end of the line's range is included.
+pub fn included(letter: u8) -> u8 {
+    match letter {
+        b'j' | b'e' | b'p' => 1,
+        _ => 0,
+    }
 }
 
 // Where lines with this letter are counted.

@@ -1,8 +1,10 @@
 // What is noted from line to line, in 64 words: how many lines of each kind there were, how many numbers were compared
-// and how many differ, and where the rows of a query and the nodes of a tree stand.
-ghost use mathlib.Core.Path.{_≡_};
+// and how many differ, the latest query, and where its rows and the nodes of a tree stand.
 ghost use Prim.Native.Nat.{_≤_, _<_};
 ghost use lib.ListN.{length};
+
+// The words.
+pub type Notes = [u64; 64];
 
 // The lines of each kind.
 pub const POOLS: usize = 0;
@@ -53,9 +55,16 @@ pub const PENDING: usize = 20;
 
 pub const FIRST_PENDING: usize = 32;
 
+// The latest query: where it starts and ends, and whether its end is included.
+pub const START: usize = 21;
+
+pub const END: usize = 22;
+
+pub const INCLUDED: usize = 23;
+
 // One more of what is counted.
-pub fn count(notes: &mut [u64], what: usize)
-    requires { ⌜ what < length (now notes) ⌝ }
+pub fn count(notes: &mut Notes, what: usize)
+    requires { ⌜ what < 64 ⌝ }
 {
     let n = notes[what];
     if n < u64::MAX {
@@ -64,37 +73,33 @@ pub fn count(notes: &mut [u64], what: usize)
 }
 
 // Compares what an entry told with what is recorded.
-pub fn compare(notes: &mut [u64], told: u64, recorded: u64)
-    requires { ⌜ length (now notes) ≡ 64 ⌝ }
-{
+pub fn compare(notes: &mut Notes, told: u64, recorded: u64) {
     count(notes, COMPARED);
     if told != recorded {
         count(notes, DIFFERENCES);
     }
 }
 
-// Compares words of the pool or of the rows with the numbers of a line.
-pub fn compare_words(notes: &mut [u64], told: &[u64], line: &[u64])
-    requires { ⌜ (length (now told) ≤ length (now line)) × (length (now notes) ≡ 64) ⌝ }
+// Compares words that were told with those that are recorded.
+pub fn compare_words(notes: &mut Notes, told: &[u64], recorded: &[u64])
+    requires { ⌜ length (now told) ≤ length (now recorded) ⌝ }
 {
     let mut i = 0;
     while i < told.len() {
-        compare(notes, told[i], line[i]);
+        compare(notes, told[i], recorded[i]);
         i += 1;
     }
 }
 
 // Notes a number.
-pub fn put(notes: &mut [u64], what: usize, n: u64)
-    requires { ⌜ what < length (now notes) ⌝ }
+pub fn put(notes: &mut Notes, what: usize, n: u64)
+    requires { ⌜ what < 64 ⌝ }
 {
     notes[what] = n;
 }
 
 // One more node is pending, where there is one. A tree so high that there is no room for it is a difference.
-pub fn push(notes: &mut [u64], slot: u64)
-    requires { ⌜ length (now notes) ≡ 64 ⌝ }
-{
+pub fn push(notes: &mut Notes, slot: u64) {
     let pending = notes[PENDING];
     if slot == 0 {
         return;
@@ -108,9 +113,7 @@ pub fn push(notes: &mut [u64], slot: u64)
 }
 
 // Takes the latest pending node, 0 where none is.
-pub fn pop(notes: &mut [u64]) -> u64
-    requires { ⌜ length (now notes) ≡ 64 ⌝ }
-{
+pub fn pop(notes: &mut Notes) -> u64 {
     let pending = notes[PENDING];
     if pending == 0 {
         return 0;
@@ -124,16 +127,12 @@ pub fn pop(notes: &mut [u64]) -> u64
 }
 
 // Whether all rows and nodes that were due have been compared.
-fn is_settled(notes: &[u64]) -> bool
-    requires { ⌜ length (now notes) ≡ 64 ⌝ }
-{
+fn is_settled(notes: &Notes) -> bool {
     notes[ROWS_DONE] == notes[ROWS_DUE] && notes[PENDING] == 0
 }
 
 // Before a line that is neither a row nor a node: what is due and was not compared is a difference.
-pub fn settle(notes: &mut [u64])
-    requires { ⌜ length (now notes) ≡ 64 ⌝ }
-{
+pub fn settle(notes: &mut Notes) {
     let settled = is_settled(notes);
     put(notes, ROWS_DUE, 0);
     put(notes, ROWS_DONE, 0);

@@ -1,28 +1,61 @@
-// The lines of a query: its hits are counted and written, and then compared row by row.
+// The lines of a query: it is asked by words and by records, its hits are counted, and then they are compared row by row
+// in both forms.
+use crate::by_records;
+use crate::line;
 use crate::notes;
-ghost use mathlib.Core.Path.{_≡_};
-ghost use lib.ListN.{length};
 
-// Asks a query, and compares the number of its hits. So many rows are due.
-pub fn query(pool: &[u64], rows: &mut [u64], line: &[u64], notes: &mut [u64], included: u8)
-    requires { ⌜ (length (now line) ≡ 10) × (length (now notes) ≡ 64) ⌝ }
-{
-    let told = hindraloha::hindraloha_query(pool, line[0], line[1], included, rows);
-    notes::compare(notes, told.number, 0);
-    notes::compare(notes, told.hits as u64, line[2]);
-    notes::put(notes, notes::ROWS_DUE, line[2]);
+// Notes a query for its rows, and that so many are due.
+fn note(line: &line::Line, notes: &mut notes::Notes, included: u8) {
+    notes[notes::START] = line[0];
+    notes[notes::END] = line[1];
+    notes[notes::INCLUDED] = included as u64;
+    notes[notes::ROWS_DUE] = line[2];
 }
 
-// Compares the next row.
-pub fn row(rows: &[u64], line: &[u64], notes: &mut [u64])
-    requires { ⌜ (length (now line) ≡ 10) × (length (now notes) ≡ 64) ⌝ }
-{
-    let done = notes[notes::ROWS_DONE] as usize;
-    notes::count(notes, notes::ROWS_DONE);
+// Asks a query in both forms, and compares the number of its hits: no form is refused, and each has so many.
+pub fn query(
+    pool: &[u64],
+    rows: &mut [u64],
+    line: &line::Line,
+    notes: &mut notes::Notes,
+    included: u8,
+) {
+    let words = hindraloha::hindraloha_query(pool, line[0], line[1], included, rows);
+    let records = by_records::ask(pool, line[0], line[1], included, 0);
+    let told = [
+        words.number,
+        words.hits as u64,
+        records.number,
+        records.hits,
+    ];
+    let due = [0, line[2], 0, line[2]];
+    notes::compare_words(notes, &told, &due);
+    note(line, notes, included);
+}
+
+// The record numbered i of the latest query, which is asked anew.
+fn record(pool: &[u64], notes: &notes::Notes, i: usize) -> [u64; 3] {
+    let included = (notes[notes::INCLUDED] != 0) as u8;
+    let told = by_records::ask(pool, notes[notes::START], notes[notes::END], included, i);
+    let row = told.row;
+    [row.start, row.end, row.value]
+}
+
+// Compares the row after those that are done, in the words.
+fn compare_row(rows: &[u64], done: usize, line: &line::Line, notes: &mut notes::Notes) {
     if done < rows.len() / 3 {
         let at = 3 * done;
         notes::compare_words(notes, &rows[at..at + 3], line);
     } else {
         notes::count(notes, notes::DIFFERENCES);
     }
+}
+
+// Compares the next row in both forms.
+pub fn row(pool: &[u64], rows: &[u64], line: &line::Line, notes: &mut notes::Notes) {
+    let done = notes[notes::ROWS_DONE] as usize;
+    let record = record(pool, notes, done);
+    notes::count(notes, notes::ROWS_DONE);
+    compare_row(rows, done, line, notes);
+    notes::compare_words(notes, &record, line);
 }

@@ -1,13 +1,11 @@
 // The lines of a whole tree: its nodes in the pool's words, each before its left subtree, and that before the right one.
+use crate::line;
 use crate::notes;
-ghost use mathlib.Core.Path.{_≡_};
 ghost use Prim.Native.Nat.{_+_, _≤_};
 ghost use lib.ListN.{length};
 
 // Compares the size, and begins at the root.
-pub fn tree(pool: &[u64], line: &[u64], notes: &mut [u64])
-    requires { ⌜ (length (now line) ≡ 10) × (length (now notes) ≡ 64) ⌝ }
-{
+pub fn tree(pool: &[u64], line: &line::Line, notes: &mut notes::Notes) {
     let told = hindraloha::hindraloha_size(pool);
     notes::compare(notes, told.count, line[0]);
     if pool.len() > 0 {
@@ -15,20 +13,33 @@ pub fn tree(pool: &[u64], line: &[u64], notes: &mut [u64])
     }
 }
 
-// Compares the node in the slot that begins at a word, and leaves its children pending.
-fn compare(pool: &[u64], at: usize, line: &[u64], notes: &mut [u64])
-    requires { ⌜ (at + 6 ≤ length (now pool)) × (length (now line) ≡ 10) × (length (now notes) ≡ 64) ⌝ }
+// What a line has of a node, from the slot that begins at a word.
+fn told(pool: &[u64], at: usize) -> [u64; 8]
+    requires { ⌜ at + 6 ≤ length (now pool) ⌝ }
 {
-    let left = pool[at + 4] & 65535;
-    let right = pool[at + 4] >> 16;
+    let links = pool[at + 4];
     let shape = pool[at + 5];
-    notes::compare_words(notes, &pool[at..at + 4], line);
-    notes::compare(notes, shape & 65535, line[4]);
-    notes::compare(notes, shape >> 16, line[5]);
-    notes::compare(notes, (left != 0) as u64, line[6]);
-    notes::compare(notes, (right != 0) as u64, line[7]);
-    notes::push(notes, right);
-    notes::push(notes, left);
+    [
+        pool[at],
+        pool[at + 1],
+        pool[at + 2],
+        pool[at + 3],
+        shape & 65535,
+        shape >> 16,
+        (links & 65535 != 0) as u64,
+        (links >> 16 != 0) as u64,
+    ]
+}
+
+// Compares the node in the slot that begins at a word, and leaves its children pending.
+fn compare(pool: &[u64], at: usize, line: &line::Line, notes: &mut notes::Notes)
+    requires { ⌜ at + 6 ≤ length (now pool) ⌝ }
+{
+    let told = told(pool, at);
+    notes::compare_words(notes, &told, line);
+    let links = pool[at + 4];
+    notes::push(notes, links >> 16);
+    notes::push(notes, links & 65535);
 }
 
 // Where the words of a slot begin: past those of every pool where there is no such slot.
@@ -45,9 +56,7 @@ fn place(slot: u64) -> usize
 }
 
 // Compares the next node.
-pub fn node(pool: &[u64], line: &[u64], notes: &mut [u64])
-    requires { ⌜ (length (now line) ≡ 10) × (length (now notes) ≡ 64) ⌝ }
-{
+pub fn node(pool: &[u64], line: &line::Line, notes: &mut notes::Notes) {
     let at = place(notes::pop(notes));
     if at + 6 > pool.len() {
         notes::count(notes, notes::DIFFERENCES);

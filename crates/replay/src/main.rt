@@ -2,8 +2,8 @@
 // size, height, row and shape. compare/recorded/README.md has the list's format and says how it was made.
 mod report;
 
-ghost use mathlib.Core.Path.{_≡_};
-ghost use lib.ListN.{length};
+use listing::line;
+use listing::notes;
 
 // The words of a pool of 4,095 slots, and of as many rows.
 const POOL_WORDS: usize = 24574;
@@ -11,9 +11,12 @@ const POOL_WORDS: usize = 24574;
 const ROW_WORDS: usize = 12285;
 
 // Reads a block and takes it in. Answers whether there was any.
-fn turn(room: &mut [u64], rows: &mut [u64], line: &mut [u64], notes: &mut [u64]) -> bool
-    requires { ⌜ (length (now line) ≡ 10) × (length (now notes) ≡ 64) ⌝ }
-{
+fn turn(
+    room: &mut [u64],
+    rows: &mut [u64],
+    line: &mut line::Line,
+    notes: &mut notes::Notes,
+) -> bool {
     let mut block = io::buffer();
     let n = io::read_full(libc::STDIN_FILENO, &mut block);
     listing::take(&block[..n], room, rows, line, notes);
@@ -21,9 +24,7 @@ fn turn(room: &mut [u64], rows: &mut [u64], line: &mut [u64], notes: &mut [u64])
 }
 
 // Takes in the whole list. The turns are counted down, from a number that no run uses up, so that the loop ends.
-fn replay(room: &mut [u64], rows: &mut [u64], line: &mut [u64], notes: &mut [u64])
-    requires { ⌜ (length (now line) ≡ 10) × (length (now notes) ≡ 64) ⌝ }
-{
+fn replay(room: &mut [u64], rows: &mut [u64], line: &mut line::Line, notes: &mut notes::Notes) {
     let mut turns = u64::MAX;
     while turns > 0 && turn(room, rows, line, notes) {
         turns -= 1;

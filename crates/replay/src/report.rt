@@ -1,7 +1,5 @@
 // What the program writes: how many lines of each kind there were, how many numbers were compared, and how many differ.
 use listing::notes;
-ghost use mathlib.Core.Path.{_≡_};
-ghost use lib.ListN.{length};
 
 // A line of a word and a number.
 fn write(word: &[u8], n: u64) {
@@ -12,9 +10,7 @@ fn write(word: &[u8], n: u64) {
 }
 
 // The lines that edit a pool.
-fn report_edits(notes: &[u64])
-    requires { ⌜ length (now notes) ≡ 64 ⌝ }
-{
+fn report_edits(notes: &notes::Notes) {
     write(b"pools", notes[notes::POOLS]);
     write(b"inserts", notes[notes::INSERTS]);
     write(b"inserts, end included", notes[notes::INSERTS_INCLUDED]);
@@ -26,9 +22,7 @@ fn report_edits(notes: &[u64])
 }
 
 // The lines of queries and of whole trees.
-fn report_queries(notes: &[u64])
-    requires { ⌜ length (now notes) ≡ 64 ⌝ }
-{
+fn report_queries(notes: &notes::Notes) {
     write(b"queries", notes[notes::QUERIES]);
     write(b"queries, end included", notes[notes::QUERIES_INCLUDED]);
     write(b"rows", notes[notes::ROWS]);
@@ -37,9 +31,7 @@ fn report_queries(notes: &[u64])
 }
 
 // All counts.
-pub fn report(notes: &[u64])
-    requires { ⌜ length (now notes) ≡ 64 ⌝ }
-{
+pub fn report(notes: &notes::Notes) {
     report_edits(notes);
     report_queries(notes);
     write(b"ends of the list", notes[notes::ENDS]);

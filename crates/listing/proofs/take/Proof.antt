@@ -1,4 +1,4 @@
--- `take` takes in each byte, and every slice keeps its length. The measure is the number of bytes that are left.
+-- `take` takes in each byte, and both slices keep their length. The measure is the number of bytes that are left.
 -- Assumes nothing.
 use Prim.Native.Nat.{_≤_, _-_}
 use mathlib.Core.Path.{_≡_}
@@ -12,8 +12,6 @@ Inv-loop bytes room₀ rows₀ line₀ notes₀ i₀ room rows line notes i =
     (i ≤ length bytes)
     × (length room ≡ length room₀)
     × (length rows ≡ length rows₀)
-    × (length line ≡ length line₀)
-    × (length notes ≡ length notes₀)
 
 abbrev μ-loop : tie.MeasureT-loop
 μ-loop bytes room₀ rows₀ line₀ notes₀ i₀ room rows line notes i = length bytes - i
@@ -42,12 +40,6 @@ same-length c = search needs
 same-length-2 : tie.Need-same-length-2 Inv-loop μ-loop
 same-length-2 c = search needs
 
-same-length-3 : tie.Need-same-length-3 Inv-loop μ-loop
-same-length-3 c = search needs
-
-same-length-4 : tie.Need-same-length-4 Inv-loop μ-loop
-same-length-4 c = search needs
-
 returns : tie.Need-returns Inv-loop μ-loop
 returns c = search needs
 
@@ -65,6 +57,4 @@ take-spec =
     loop-again
     same-length
     same-length-2
-    same-length-3
-    same-length-4
     returns)

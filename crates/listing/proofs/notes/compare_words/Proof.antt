@@ -1,16 +1,15 @@
 -- `compare_words` reads each word within both slices. The measure is the number of words that are left. Assumes nothing.
 use Prim.Native.Nat.{_≤_, _-_}
-use mathlib.Core.Path.{_≡_}
 use lib.ListN.{length}
 use borrow.Author.Needs.{needs}
 use Rattle.listing.proofs.notes.compare_words.Statement.{statement}
 use Rattle.listing.proofs.notes.compare_words.Tie as tie
 
 abbrev Inv-loop : tie.InvT-loop
-Inv-loop notes₀ told line i₀ notes i = (i ≤ length told) × (length notes ≡ length notes₀)
+Inv-loop notes₀ told recorded i₀ notes i = i ≤ length told
 
 abbrev μ-loop : tie.MeasureT-loop
-μ-loop notes₀ told line i₀ notes i = length told - i
+μ-loop notes₀ told recorded i₀ notes i = length told - i
 
 loop-holds : tie.Need-loop-holds Inv-loop μ-loop
 loop-holds c = search needs
@@ -39,9 +38,6 @@ loop-less c = search needs
 loop-again : tie.Need-loop-again Inv-loop μ-loop
 loop-again c = search needs
 
-same-length : tie.Need-same-length Inv-loop μ-loop
-same-length c = search needs
-
 returns : tie.Need-returns Inv-loop μ-loop
 returns c = search needs
 
@@ -60,5 +56,4 @@ compare-words-spec =
     add-i
     loop-less
     loop-again
-    same-length
     returns)

@@ -2,11 +2,11 @@
 // compared. compare/recorded/README.md has the list's format.
 mod by_records;
 mod edits;
-pub mod line;
-pub mod notes;
 mod queries;
 mod shapes;
 
+use lines::line;
+use lines::notes;
 ghost use Prim.Native.Nat.{_≤_};
 ghost use lib.ListN.{length};
 

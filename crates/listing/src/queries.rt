@@ -1,8 +1,8 @@
 // The lines of a query: it is asked by words and by records, its hits are counted, and then they are compared row by row
 // in both forms.
 use crate::by_records;
-use crate::line;
-use crate::notes;
+use lines::line;
+use lines::notes;
 
 // Notes a query for its rows, and that so many are due.
 fn note(line: &line::Line, notes: &mut notes::Notes, included: u8) {

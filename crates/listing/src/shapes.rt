@@ -1,6 +1,6 @@
 // The lines of a whole tree: its nodes in the pool's words, each before its left subtree, and that before the right one.
-use crate::line;
-use crate::notes;
+use lines::line;
+use lines::notes;
 ghost use Prim.Native.Nat.{_+_, _≤_};
 ghost use lib.ListN.{length};
 

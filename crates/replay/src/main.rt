@@ -2,8 +2,8 @@
 // size, height, row and shape. compare/recorded/README.md has the list's format and says how it was made.
 mod report;
 
-use listing::line;
-use listing::notes;
+use lines::line;
+use lines::notes;
 
 // The words of a pool of 4,095 slots, and of as many rows.
 const POOL_WORDS: usize = 24574;

@@ -1,5 +1,5 @@
 // What the program writes: how many lines of each kind there were, how many numbers were compared, and how many differ.
-use listing::notes;
+use lines::notes;
 
 // A line of a word and a number.
 fn write(word: &[u8], n: u64) {

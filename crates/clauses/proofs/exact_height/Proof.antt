@@ -33,7 +33,16 @@ larger-requires c κs = search needs
 
 returns : tie.Need-returns
 unfolding exact-height
-returns c = cc
+returns c =
+    let heights = c .before in
+    let own = heights .before .before in
+    rw (
+      c .larger .ensures,
+      heights .height2 .ensures,
+      heights .before .height .ensures,
+      own .low .ensures,
+      own .before .word .ensures,
+    )
 
 pub exact-height-spec : {M : Type 1} → statement M
 exact-height-spec =

@@ -24,7 +24,16 @@ larger-requires-2 c κs = search needs
 
 returns : tie.Need-returns
 unfolding exact-max
-returns c = cc
+returns c =
+    let ends = c .before .before .before in
+    rw (
+      c .before .before .word .ensures,
+      c .larger2 .ensures,
+      c .before .word2 .ensures,
+      ends .larger .ensures,
+      ends .before .max-end2 .ensures,
+      ends .before .before .max-end .ensures,
+    )
 
 pub exact-max-spec : {M : Type 1} → statement M
 exact-max-spec =

@@ -35,7 +35,9 @@ add-result-2 c = omega (arith, small c)
 
 returns : tie.Need-returns
 unfolding exact-size
-returns c = cc
+returns c =
+    let size = c .before .before in
+    rw (c .size2 .ensures, c .before .size .ensures, size .high .ensures, size .before .word .ensures)
 
 pub exact-size-spec : {M : Type 1} → statement M
 exact-size-spec =

@@ -29,7 +29,8 @@ height-requires c κs = search needs
 
 returns-2 : tie.Need-returns-2
 unfolding header-here
-returns-2 c = rw (le-leb _ _ (c .before .before .before .before .before .if1 .left)) (cc)
+returns-2 c = rw (le-leb _ _ (c .before .before .before .before .before .if1 .left))
+    (rw (c .height .ensures, c .before .before .size .ensures))
 
 pub header-spec : {M : Type 1} → statement M
 header-spec =

@@ -21,7 +21,14 @@ word-requires-5 c κs = search needs
 
 returns : tie.Need-returns
 unfolding zeros-here
-returns c = cc
+returns c =
+    rw (
+      c .word5 .ensures,
+      c .before .word4 .ensures,
+      c .before .before .word3 .ensures,
+      c .before .before .before .word2 .ensures,
+      c .before .before .before .before .word .ensures,
+    )
 
 pub zeros-spec : {M : Type 1} → statement M
 zeros-spec =

@@ -2,8 +2,8 @@
 use Prim.Native.Nat.{_≤_, _-_}
 use lib.ListN.{length}
 use borrow.Author.Needs.{needs}
-use Rattle.listing.proofs.notes.compare_words.Statement.{statement}
-use Rattle.listing.proofs.notes.compare_words.Tie as tie
+use Rattle.lines.proofs.notes.compare_words.Statement.{statement}
+use Rattle.lines.proofs.notes.compare_words.Tie as tie
 
 abbrev Inv-loop : tie.InvT-loop
 Inv-loop notes₀ told recorded i₀ notes i = i ≤ length told

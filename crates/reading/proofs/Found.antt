@@ -1,17 +1,17 @@
--- What is read from any bytes: a body by the length that its row fixes, and a record by its first byte where only the
--- first rows of a table are known. Assumes nothing.
+-- What is read from any bytes: a body by the length that its row fixes, and a record by its first byte. Assumes nothing.
 use Prim.Native.Nat.{ℕ, _+_, _-_, _≤_, _<_}
 use mathlib.Core.List.{List, [], _∷_}
 use mathlib.Core.Option.{Option, none, some}
-use mathlib.Core.Path.{_≡_, refl}
+use mathlib.Core.Path.{_≡_, refl, sym, _∙_}
 use native.Mathlib.Numerals.{add-one}
 use native.Mathlib.Omega.{arith}
 use borrow.Author.Tests.{le-leb, lt-leb}
-use lib.ListN.{length, getD, take, drop, length-take, List·getD-eq-default}
-use lib.Seq.{getD-take, take-all}
+use lib.ListN.{length, getD, take, drop}
+use lib.Seq.{take-all}
 use Rattle.rules.specs.Request.{Request}
-use Rattle.rules.specs.Record.{Kind, whole, unknown, cut-short, reads-kind, reads}
-use Rattle.reading.specs.Reading.{fixed-length, Enough, said}
+use Rattle.rules.specs.Record.{Kind, whole, unknown, cut-short, feed-kinds, reads-kind, reads}
+use Rattle.reading.specs.Reading.{row, feed-row, fixed-length, Enough, said}
+use Rattle.reading.proofs.Rows.{feed-row-known}
 
 -- no row: the kind is unknown
 pub no-row : (o : Option Kind) (body : List ℕ) → none ≡ fixed-length o → unknown ≡ reads-kind o body
@@ -43,20 +43,35 @@ unfolding reads
 no-bytes table [] h = refl
 no-bytes table (kind ∷ body) h = absurd (omega arith)
 
--- a kind past the first rows of a table is unknown to them
-pub past-known : (table : List (Option Kind)) (known : ℕ) (bytes : List ℕ) → (length bytes ≡ 0 → ⊥) →
-    known ≤ getD bytes 0 0 → unknown ≡ reads (take known table) bytes
-unfolding reads
-past-known table known [] h p = absurd (h refl)
-past-known table known (kind ∷ body) h p =
-    rw (List·getD-eq-default (take known table) none {n = kind} (omega (arith, length-take known table)))
+-- the bytes behind the first one, as they are lent
+abbrev pub behind : List ℕ → List ℕ
+behind bytes = take (length bytes - 1) (drop 1 bytes)
 
--- a kind among them reads its body as the whole table says
-pub among-known : (table : List (Option Kind)) (known : ℕ) (bytes : List ℕ) → (length bytes ≡ 0 → ⊥) →
-    getD bytes 0 0 < known →
-    reads-kind (getD table (getD bytes 0 0) none) (take (length bytes - 1) (drop 1 bytes))
-    ≡ reads (take known table) bytes
+-- the first byte says the kind, and the bytes behind it are the body
+pub by-kind : (table : List (Option Kind)) (bytes : List ℕ) → 1 ≤ length bytes →
+    reads-kind (getD table (getD bytes 0 0) none) (behind bytes) ≡ reads table bytes
 unfolding reads
-among-known table known [] h p = absurd (h refl)
-among-known table known (kind ∷ body) h p =
-    rw (getD-take known table kind none p, take-all (length (kind ∷ body) - 1) body (omega arith))
+by-kind table [] h = absurd (omega arith)
+by-kind table (kind ∷ body) h = rw (take-all (length (kind ∷ body) - 1) body (omega arith))
+
+-- a record of a feed, where its row fixes n bytes of body
+module _ (bytes : List ℕ) (n : ℕ) (there : 1 ≤ length bytes) (fixed : some n ≡ fixed-length (feed-row (getD bytes 0 0))) where
+  pub cut-in-feed : length (behind bytes) < n → reads feed-kinds bytes ≡ cut-short
+  cut-in-feed short = sym (too-short (feed-row (getD bytes 0 0)) (behind bytes) n fixed short ∙ by-kind feed-kinds bytes there)
+
+  pub enough-in-feed : n ≤ length (behind bytes) → Enough (row (getD bytes 0 0)) (behind bytes)
+  enough-in-feed long =
+      rw (feed-row-known (getD bytes 0 0) n fixed) at (long-enough (feed-row (getD bytes 0 0)) (behind bytes) n fixed long)
+
+  pub whole-in-feed : (q : Request) → n ≤ length (behind bytes) → said (row (getD bytes 0 0)) (behind bytes) ≡ some q
+      → reads feed-kinds bytes ≡ whole q (n + 1)
+  whole-in-feed q long says =
+      let known = feed-row-known (getD bytes 0 0) n fixed in
+      sym
+      (is-whole (feed-row (getD bytes 0 0)) (behind bytes) n q fixed long (rw known says) ∙ by-kind feed-kinds bytes there)
+
+-- a record of a feed without a row
+pub unknown-in-feed : (bytes : List ℕ) → 1 ≤ length bytes → none ≡ fixed-length (feed-row (getD bytes 0 0))
+    → reads feed-kinds bytes ≡ unknown
+unknown-in-feed bytes there fixed =
+    sym (no-row (feed-row (getD bytes 0 0)) (behind bytes) fixed ∙ by-kind feed-kinds bytes there)

@@ -4,12 +4,13 @@ use Prim.Native.Nat.{ℕ, zero, suc, _+_, _≤_, _<_, max}
 use mathlib.Core.List.{List, [], _∷_}
 use mathlib.Core.Logic.{⊎-elim}
 use mathlib.Core.Option.{Option, none, some}
-use mathlib.Core.Path.{_≡_}
+use mathlib.Core.Path.{_≡_, sym, _∙_}
 use native.Mathlib.Omega.{arith}
 use lib.ListN.{getD, List·getD-eq-default}
-use Rattle.rules.specs.Record.{Kind, kinds}
+use lib.Seq.{getD-take}
+use Rattle.rules.specs.Record.{Kind, kinds, feed-kinds}
 use Rattle.rules.proofs.Tests.{lt-cases, eq-cases}
-use Rattle.reading.specs.Reading.{row, fixed-length, Enough}
+use Rattle.reading.specs.Reading.{row, feed-row, fixed-length, Enough}
 
 -- n rows, from row a on, fix this length
 abbrev Fixing : Option ℕ → ℕ → ℕ → Type 0
@@ -29,6 +30,21 @@ fixing l a (suc n) r k p q =
 -- no row stands past the table
 pub past-table : (k : ℕ) → 10 ≤ k → row k ≡ none
 past-table k h = List·getD-eq-default kinds none h
+
+-- a feed has the same rows, but for the ninth
+pub but-the-ninth : (k : ℕ) → (k ≡ 9 → ⊥) → feed-row k ≡ row k
+but-the-ninth k other =
+    ⊎-elim (λ t. getD-take 9 kinds k none (t .0))
+    (λ t.
+    let past : 10 ≤ k = omega (arith, t .0, other) in
+    List·getD-eq-default feed-kinds none (t .0) ∙ sym (past-table k past))
+    (lt-cases k 9)
+
+-- so where a feed's row fixes a length, it is the table's
+pub feed-row-known : (k n : ℕ) → some n ≡ fixed-length (feed-row k) → feed-row k ≡ row k
+feed-row-known k n fixed =
+    but-the-ninth k
+    (λ is. let none-there = rw is at fixed in let z : _≡_ {A = ℕ} 0 1 = cc in omega arith)
 
 -- what a row fixes is fixed where the kind is known by its number
 pub enough-at : {k n : ℕ} (body : List ℕ) → k ≡ n → Enough (row k) body → Enough (row n) body

@@ -10,7 +10,7 @@ use Rattle.rules.specs.Balance.{left, right}
 use Rattle.rules.specs.Request as request
 use Rattle.rules.specs.Request.{inserting, deleting, deleting-end, clearing, querying}
 use Rattle.rules.specs.Record as found
-use Rattle.rules.specs.Record.{Kind, kinds, whole, unknown, cut-short}
+use Rattle.rules.specs.Record.{Kind, kinds, feed-kinds, whole, unknown, cut-short}
 use Rattle.reading.specs.declared.End.{End}
 use Rattle.reading.specs.declared.End.the-variants.{Excluded, Included}
 use Rattle.reading.specs.declared.Request.{Request}
@@ -50,6 +50,10 @@ ask-of pair.Query = querying excluded
 -- the row of a kind, where the table has one
 abbrev pub row : ℕ → Option Kind
 row kind = getD kinds kind none
+
+-- and where the table of a feed has one
+abbrev pub feed-row : ℕ → Option Kind
+feed-row kind = getD feed-kinds kind none
 
 -- "a body whose length the kind fixes": the answer, and what a row fixes
 abbrev pub length-of : Body → Option ℕ

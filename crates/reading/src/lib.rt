@@ -2,11 +2,11 @@
 ghost use mathlib.Core.Path.{_≡_};
 ghost use mathlib.Core.Option.{some};
 ghost use Prim.Native.Nat.{_+_, _≤_, _<_};
-ghost use lib.ListN.{length, getD, take};
+ghost use lib.ListN.{length, getD};
 ghost use Rattle.rules.specs.Record.{metre, u32-at, u64-at, insert-by, insert-exact, with-pair};
-ghost use Rattle.rules.specs.Record.{kinds, feed-kinds, reads-kind, reads};
+ghost use Rattle.rules.specs.Record.{kinds, reads-kind, reads};
 ghost use Rattle.reading.specs.Reading.{end-of, request-of, reading-of, ask-of};
-ghost use Rattle.reading.specs.Reading.{row, length-of, fixed-length, Enough, said};
+ghost use Rattle.reading.specs.Reading.{row, feed-row, length-of, fixed-length, Enough, said};
 
 // A metre and a link in micrometres.
 const METRE: u64 = 1_000_000;
@@ -155,8 +155,18 @@ pub fn body_length(kind: u8) -> Body
     }
 }
 
+// How long the body of a kind is that a feed takes: a query is unknown there.
+pub fn body_length_in_feed(kind: u8) -> Body
+    ensures { λ r. ⌜ length-of r ≡ fixed-length (feed-row kind) ⌝ }
+{
+    if kind == 9 {
+        return Body::Unknown;
+    }
+    body_length(kind)
+}
+
 // What a body of a kind in the table asks.
-fn means(kind: u8, body: &[u8]) -> Request
+pub fn means(kind: u8, body: &[u8]) -> Request
     requires { ⌜ Enough (row kind) (now body) ⌝ }
     ensures { λ r. ⌜ said (row kind) (now (body .entry)) ≡ some (request-of r) ⌝ }
 {
@@ -188,30 +198,12 @@ fn read_body(kind: u8, body: &[u8]) -> Reading
     }
 }
 
-// Reads one record where the kinds below `known` are known.
-fn read_known(bytes: &[u8], known: u8) -> Reading
-    ensures { λ r. ⌜ reading-of r ≡ reads (take known kinds) (now (bytes .entry)) ⌝ }
-{
-    if bytes.len() == 0 {
-        return Reading::CutShort;
-    }
-    let kind = bytes[0];
-    if known <= kind {
-        return Reading::Unknown;
-    }
-    read_body(kind, &bytes[1..])
-}
-
 // Reads one record, of kinds 1 to 9.
 pub fn read(bytes: &[u8]) -> Reading
     ensures { λ r. ⌜ reading-of r ≡ reads kinds (now (bytes .entry)) ⌝ }
 {
-    read_known(bytes, 10)
-}
-
-// Reads one record of a feed, of kinds 1 to 8: a query is unknown there.
-pub fn read_in_feed(bytes: &[u8]) -> Reading
-    ensures { λ r. ⌜ reading-of r ≡ reads feed-kinds (now (bytes .entry)) ⌝ }
-{
-    read_known(bytes, 9)
+    if bytes.len() == 0 {
+        return Reading::CutShort;
+    }
+    read_body(bytes[0], &bytes[1..])
 }

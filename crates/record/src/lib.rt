@@ -1,4 +1,5 @@
 // Survey records to a sound pool: one record applied, and a feed of them.
+use reading::Body;
 use reading::Reading;
 use reading::Request;
 ghost use mathlib.Core.Path.{_≡_};
@@ -95,17 +96,21 @@ fn feed_one(words: &mut [u64], bytes: &[u8]) -> Turn
     requires { ⌜ ((p : Pool) × Holds (now words) p × (1 ≤ length (now bytes))) ⌝ }
     ensures { λ r. ⌜ ((p : Pool) → Holds (now (words .entry)) p → 1 ≤ length (now (bytes .entry)) → Turned r (now (words .entry)) (now (words .exit)) (now (bytes .entry)) p) ⌝ }
 {
-    match reading::read_in_feed(bytes) {
-        Reading::Whole(request, taken) => {
-            let number = edit(words, request);
+    let kind = bytes[0];
+    match reading::body_length_in_feed(kind) {
+        Body::Unknown => Turn::Refused(14),
+        Body::Length(n) => {
+            let body = &bytes[1..];
+            if body.len() < n {
+                return Turn::Refused(15);
+            }
+            let number = edit(words, reading::means(kind, body));
             if number < 10 {
-                Turn::Taken(taken)
+                Turn::Taken(n + 1)
             } else {
                 Turn::Refused(number)
             }
         }
-        Reading::Unknown => Turn::Refused(14),
-        Reading::CutShort => Turn::Refused(15),
     }
 }
 

@@ -1,72 +1,121 @@
 -- `feed_one` is one turn of the rules' feed. Assumes nothing.
-use mathlib.Core.Path.{refl, sym, ap, _∙_}
+use Prim.Native.Nat.{ℕ, _+_, _≤_}
+use mathlib.Core.List.{List}
+use mathlib.Core.Option.{some}
+use mathlib.Core.Path.{_≡_, refl}
+use lib.ListN.{length, getD}
 use Rattle.rules.specs.Request.{serve}
-use Rattle.reading.specs.Reading.{reading-of, request-of}
+use Rattle.rules.specs.Record.{whole, feed-kinds, reads}
+use Rattle.reading.specs.Reading.{feed-row, fixed-length, request-of}
+use Rattle.reading.proofs.Found.{cut-in-feed, enough-in-feed, whole-in-feed, unknown-in-feed}
 use Rattle.record.proofs.Turns.{ends-unknown, ends-cut-short}
 use Rattle.record.proofs.Feeding.{turned-on, turned-off}
 use borrow.Author.Needs.{needs}
 use Rattle.record.proofs.feed_one.Statement.{statement}
 use Rattle.record.proofs.feed_one.Tie as tie
 
-read-in-feed-requires : tie.Need-read-in-feed-requires
-read-in-feed-requires c κs = search needs
+-- the bytes that are fed
+abbrev bytes : tie.After-body-length-in-feed → List ℕ
+bytes d = d .before .before .before .before .args .bytes .now
 
-enum-known-request : tie.Need-enum-known-request
-enum-known-request c = search needs
+-- the length that the kind fixes, where it is known
+abbrev n : tie.After-n → ℕ
+n d = d .n .given .0 .0
 
-edit-requires : tie.Need-edit-requires
-edit-requires c κs = search needs
+fixed : (d : tie.After-n) → some (n d) ≡ fixed-length (feed-row (getD (bytes (d .before .before)) 0 0))
+fixed d = rw (d .n .given .1) at (d .before .before .body-length-in-feed .ensures)
+
+-- what is read where the body is long enough
+whole-read : (m : tie.After-means) → 1 ≤ length (bytes (m .before .before .before .before .before .before .before))
+    → reads feed-kinds (bytes (m .before .before .before .before .before .before .before))
+    ≡ whole (request-of (m .means .result)) (n (m .before .before .before .before .before) + 1)
+whole-read m there =
+    let known = m .before .before .before .before .before in
+    whole-in-feed (bytes (known .before .before)) (n known) there (fixed known) (request-of (m .means .result))
+    (m .before .before .if1 .left) (m .means .ensures)
+
+shared-slice-read-kind : tie.Need-shared-slice-read-kind
+shared-slice-read-kind c = search needs
+
+body-length-in-feed-requires : tie.Need-body-length-in-feed-requires
+body-length-in-feed-requires c κs = search needs
 
 enum-told : tie.Need-enum-told
 enum-told c = search needs
 
-enum-told-2 : tie.Need-enum-told-2
-enum-told-2 c = search needs
+enum-known-n : tie.Need-enum-known-n
+enum-known-n c = search needs
+
+sub-body : tie.Need-sub-body
+sub-body c = search needs
+
+part-body-start : tie.Need-part-body-start
+part-body-start c = search needs
+
+part-body-end : tie.Need-part-body-end
+part-body-end c = search needs
+
+returns : tie.Need-returns
+returns c p h there =
+    let known = c .before .before .before in
+    let fed = bytes (known .before .before) in
+    (refl, ends-cut-short (serve _) fed p there (cut-in-feed fed (n known) there (fixed known) (c .if1 .taken)))
+
+means-requires : tie.Need-means-requires
+means-requires c κs =
+    let known = c .before .before .before .before in
+    let start = known .before .before .before .before .before .before in
+    enough-in-feed (bytes (known .before .before)) (n known) (start .pre .2) (fixed known) (c .before .if1 .left)
+
+edit-requires : tie.Need-edit-requires
+edit-requires c κs = search needs
+
+add-t19 : tie.Need-add-t19
+add-t19 c = search needs
+
+returns-2 : tie.Need-returns-2
+returns-2 c p h there =
+    let asked = c .before .before in
+    let none-there = rw (c .enum-told .given .1) at (asked .body-length-in-feed .ensures) in
+    (refl, ends-unknown (serve _) (bytes asked) p there (unknown-in-feed (bytes asked) there none-there))
 
 same-length : tie.Need-same-length
 same-length c = search needs
 
-returns : tie.Need-returns
-returns c p h some =
-    let d = c .before .before .before .before .before .before .before .before in
-    let start = d .before .before .before in
-    let read = sym (d .read-in-feed .ensures) ∙ ap reading-of (c .before .before .before .before .before .before .request .given .1) in
-    turned-on (start .args .bytes .now) (request-of (c .before .before .before .before .before .before .request .given .0 .0)) h some read (c .before .before .before .edit .ensures p h) (c .if1 .taken)
+returns-3 : tie.Need-returns-3
+returns-3 c p h there =
+    let edited = c .before .before .before in
+    let m = edited .before in
+    turned-on (bytes (m .before .before .before .before .before .before .before)) (request-of (m .means .result)) h there
+    (whole-read m there) (edited .edit .ensures p h) (c .if2 .taken)
 
 same-length-2 : tie.Need-same-length-2
 same-length-2 c = search needs
 
-returns-2 : tie.Need-returns-2
-returns-2 c p h some =
-    let d = c .before .before .before .before .before .before .before .before in
-    let start = d .before .before .before in
-    let read = sym (d .read-in-feed .ensures) ∙ ap reading-of (c .before .before .before .before .before .before .request .given .1) in
-    turned-off (start .args .bytes .now) (request-of (c .before .before .before .before .before .before .request .given .0 .0)) h some read (c .before .before .before .edit .ensures p h) (c .if1 .left)
-
-returns-3 : tie.Need-returns-3
-returns-3 c p h some =
-    let d = c .before .before in
-    let read = sym (d .read-in-feed .ensures) ∙ ap reading-of (c .enum-told .given .1) in
-    (refl, ends-unknown (serve _) (d .before .before .before .args .bytes .now) p some read)
-
 returns-4 : tie.Need-returns-4
-returns-4 c p h some =
-    let d = c .before .before in
-    let read = sym (d .read-in-feed .ensures) ∙ ap reading-of (c .enum-told2 .given .1) in
-    (refl, ends-cut-short (serve _) (d .before .before .before .args .bytes .now) p some read)
+returns-4 c p h there =
+    let edited = c .before .before .before in
+    let m = edited .before in
+    turned-off (bytes (m .before .before .before .before .before .before .before)) (request-of (m .means .result)) h there
+    (whole-read m there) (edited .edit .ensures p h) (c .if2 .left)
 
 pub feed-one-spec : {M : Type 1} → statement M
 feed-one-spec =
     tie.close
     (tie.spec
-    read-in-feed-requires
-    enum-known-request
-    edit-requires
+    shared-slice-read-kind
+    body-length-in-feed-requires
     enum-told
-    enum-told-2
-    same-length
+    enum-known-n
+    sub-body
+    part-body-start
+    part-body-end
     returns
-    same-length-2
+    means-requires
+    edit-requires
+    add-t19
     returns-2
+    same-length
     returns-3
+    same-length-2
     returns-4)

@@ -1,5 +1,6 @@
--- The laws of the tests: what is read is small, two entries as bounds, and the tests as facts of the words.
-pub mod Sizes
+-- The laws of the tests: two entries as bounds, what is exact by how many children there are, and the tests as facts of
+-- the words.
 pub mod Bounds
+pub mod Exact
 pub mod Nodes
 pub mod Heads

@@ -1,8 +1,8 @@
 -- The test of one slot, as facts of its words. Assumes nothing.
 use Prim.Native.Nat.{ℕ, _+_, _*_, _%_, _/_, _≤_, max}
-use mathlib.Core.Bool.{Bool, true, false, _&&_, _||_}
+use mathlib.Core.Bool.{Bool, true, false, _||_}
 use mathlib.Core.List.{List}
-use mathlib.Core.Path.{_≡_, refl}
+use mathlib.Core.Path.{_≡_, refl, _∙_}
 use native.Mathlib.Omega.{arith}
 use lib.Dec.{ltb}
 use lib.ListN.{length}
@@ -11,7 +11,8 @@ use Rattle.rules.specs.Limits.{slot-words, half}
 use Rattle.rules.specs.Stored.{slot-word}
 use Rattle.rules.proofs.Tests.{and-true, true-and}
 use Rattle.node.specs.Node.{levels-at, size-at, max-at}
-use Rattle.clauses.specs.Slot.{left-in, right-in, exact-height, exact-size, exact-max, fits-here}
+use Rattle.clauses.proofs.Exact.{exact-turned}
+use Rattle.clauses.specs.Slot.{left-in, right-in, exact-height, exact-size, exact-max, exact-over, fits-here}
 
 -- the words of slot k are right over its children
 pub record Fitting (ss : List ℕ) (k : ℕ) : Type 0 where
@@ -26,7 +27,7 @@ pub record Fitting (ss : List ℕ) (k : ℕ) : Type 0 where
 
 -- a slot that passes the test
 pub fits-says : (ss : List ℕ) (k : ℕ) → fits-here ss k ≡ true → Fitting ss k
-unfolding fits-here exact-height exact-size exact-max
+unfolding fits-here exact-over exact-height exact-size exact-max
 fits-says ss k h =
     let both = and-true _ _ h in
     let ends = and-true _ _ (both .0) in
@@ -46,7 +47,7 @@ fits-says ss k h =
 
 -- and one that must pass it
 pub says-fits : {ss : List ℕ} {k : ℕ} → Fitting ss k → fits-here ss k ≡ true
-unfolding fits-here exact-height exact-size exact-max
+unfolding fits-here exact-over exact-height exact-size exact-max
 says-fits f =
     true-and (true-and (le-leb _ _ (f .left-at)) (le-leb _ _ (f .right-at)))
     (true-and
@@ -81,10 +82,18 @@ module _ (ss : List ℕ) (k : ℕ) {l r : ℕ} (left : l ≡ left-in ss k) (righ
           refl
           in cc
 
-  pub exact-fits : (slot-words * l ≤ length ss) × (slot-words * r ≤ length ss)
-      → (exact-height ss k l r && exact-size ss k l r) && exact-max ss k l r ≡ fits-here ss k
+  pub exact-fits : (slot-words * l ≤ length ss) × (slot-words * r ≤ length ss) → exact-over ss k l r ≡ fits-here ss k
   unfolding fits-here
   exact-fits both =
       let one = le-leb (slot-words * l) (length ss) (both .0) in
       let two = le-leb (slot-words * r) (length ss) (both .1) in
       cc
+
+  -- where one child is none, what is exact over the other alone decides
+  pub only-left : r ≡ 0 → (slot-words * l ≤ length ss) × (slot-words * r ≤ length ss)
+      → exact-over ss k l 0 ≡ fits-here ss k
+  only-left none both = rw none at (exact-fits both)
+
+  pub only-right : l ≡ 0 → (slot-words * l ≤ length ss) × (slot-words * r ≤ length ss)
+      → exact-over ss k r 0 ≡ fits-here ss k
+  only-right none both = exact-turned ss k r 0 ∙ (rw none at (exact-fits both))

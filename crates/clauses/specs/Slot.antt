@@ -33,6 +33,10 @@ exact-size ss k l r = eqb (slot-word ss k 5 / half) (size-at ss l + size-at ss r
 unfoldable pub exact-max : List ℕ → ℕ → ℕ → ℕ → Bool
 exact-max ss k l r = eqb (slot-word ss k 3) (max (slot-word ss k 1) (max (max-at ss l) (max-at ss r)))
 
+-- height, size and max exact over the children l and r
+unfoldable pub exact-over : List ℕ → ℕ → ℕ → ℕ → Bool
+exact-over ss k l r = (exact-height ss k l r && exact-size ss k l r) && exact-max ss k l r
+
 -- the children of slot k
 abbrev pub left-in : List ℕ → ℕ → ℕ
 left-in ss k = slot-word ss k 4 % half
@@ -40,12 +44,11 @@ left-in ss k = slot-word ss k 4 % half
 abbrev pub right-in : List ℕ → ℕ → ℕ
 right-in ss k = slot-word ss k 4 / half
 
--- both children are slots or none, and height, size and max are exact over them
+-- both children are slots or none, and all three are exact over them
 unfoldable pub fits-here : List ℕ → ℕ → Bool
 fits-here ss k =
     (leb (slot-words * left-in ss k) (length ss) && leb (slot-words * right-in ss k) (length ss))
-    && ((exact-height ss k (left-in ss k) (right-in ss k) && exact-size ss k (left-in ss k) (right-in ss k))
-    && exact-max ss k (left-in ss k) (right-in ss k))
+    && exact-over ss k (left-in ss k) (right-in ss k)
 
 -- "A free slot has zeros, except that links holds the next free slot."
 unfoldable pub zeros-here : List ℕ → ℕ → Bool

@@ -8,7 +8,7 @@ ghost use lib.ListN.{length};
 ghost use Rattle.rules.specs.Limits.{half};
 ghost use Rattle.rules.specs.Pool.{ascending};
 ghost use Rattle.rules.specs.Stored.{slot-word, Within};
-ghost use Rattle.clauses.specs.Slot.{bound, exact-height, exact-size, exact-max, fits-here};
+ghost use Rattle.clauses.specs.Slot.{bound, exact-over, fits-here};
 ghost use Rattle.clauses.specs.Slot.{zeros-here, header-here};
 
 // The most levels of a pool's tree.
@@ -48,38 +48,50 @@ pub fn in_order(slots: &[u64], a: u64, b: u64) -> bool
     }
 }
 
-// Whether the height in slot k is exact over its children l and r, whose heights differ by one at most.
-fn exact_height(slots: &[u64], k: u64, l: u64, r: u64) -> bool
-    requires { ⌜ Within (now slots) k × (6 * l ≤ length (now slots)) × (6 * r ≤ length (now slots)) ⌝ }
-    ensures { λ b. ⌜ b ≡ exact-height (now (slots .entry)) k l r ⌝ }
+// Whether slot k, which has no children, is right: height 0, size 1 and its own end as max.
+pub fn fits_alone(slots: &[u64], k: u64) -> bool
+    requires { ⌜ Within (now slots) k × (slot-word (now slots) k 4 ≡ 0) ⌝ }
+    ensures { λ b. ⌜ b ≡ fits-here (now (slots .entry)) k ⌝ }
 {
-    let height = node::low(node::word(slots, k, 5));
-    let a = node::height(slots, l);
-    let b = node::height(slots, r);
-    (a <= b + 1) & (b <= a + 1) & (height == interval::larger(a, b))
+    (node::word(slots, k, 5) == node::pack(0, 1))
+        & (node::word(slots, k, 3) == node::word(slots, k, 1))
 }
 
-// Whether the size in slot k is exact over its children l and r.
-fn exact_size(slots: &[u64], k: u64, l: u64, r: u64) -> bool
-    requires { ⌜ Within (now slots) k × (6 * l ≤ length (now slots)) × (6 * r ≤ length (now slots)) ⌝ }
-    ensures { λ b. ⌜ b ≡ exact-size (now (slots .entry)) k l r ⌝ }
+// Whether height, size and max in slot k are exact over its only child c.
+fn fits_one(slots: &[u64], k: u64, c: u64) -> bool
+    requires { ⌜ Within (now slots) k × Within (now slots) c ⌝ }
+    ensures { λ b. ⌜ b ≡ exact-over (now (slots .entry)) k c 0 ⌝ }
 {
-    let size = node::high(node::word(slots, k, 5));
-    size == node::size(slots, l) + node::size(slots, r) + 1
+    let shape = node::word(slots, k, 5);
+    let below = node::word(slots, c, 5);
+    let max = interval::larger(node::word(slots, k, 1), node::word(slots, c, 3));
+    (node::low(shape) == 1)
+        & (node::low(below) == 0)
+        & (node::high(shape) == node::high(below) + 1)
+        & (node::word(slots, k, 3) == max)
 }
 
-// Whether the max in slot k is exact over its children l and r.
-fn exact_max(slots: &[u64], k: u64, l: u64, r: u64) -> bool
-    requires { ⌜ Within (now slots) k × (6 * l ≤ length (now slots)) × (6 * r ≤ length (now slots)) ⌝ }
-    ensures { λ b. ⌜ b ≡ exact-max (now (slots .entry)) k l r ⌝ }
+// Whether height, size and max in slot k are exact over its two children l and r, whose heights differ by one at most.
+fn fits_both(slots: &[u64], k: u64, l: u64, r: u64) -> bool
+    requires { ⌜ Within (now slots) k × Within (now slots) l × Within (now slots) r ⌝ }
+    ensures { λ b. ⌜ b ≡ exact-over (now (slots .entry)) k l r ⌝ }
 {
-    let below = interval::larger(node::max_end(slots, l), node::max_end(slots, r));
-    node::word(slots, k, 3) == interval::larger(node::word(slots, k, 1), below)
+    let shape = node::word(slots, k, 5);
+    let left = node::word(slots, l, 5);
+    let right = node::word(slots, r, 5);
+    let a = node::low(left);
+    let b = node::low(right);
+    let below = interval::larger(node::word(slots, l, 3), node::word(slots, r, 3));
+    (a <= b + 1)
+        & (b <= a + 1)
+        & (node::low(shape) == interval::larger(a, b) + 1)
+        & (node::high(shape) == node::high(left) + node::high(right) + 1)
+        & (node::word(slots, k, 3) == interval::larger(node::word(slots, k, 1), below))
 }
 
-// Whether slot k is right over its children: both are slots or none, and height, size and max are exact.
+// Whether slot k, which has children, is right over them: each is a slot or none, and height, size and max are exact.
 pub fn fits(slots: &[u64], k: u64) -> bool
-    requires { ⌜ Within (now slots) k ⌝ }
+    requires { ⌜ Within (now slots) k × (1 ≤ slot-word (now slots) k 4) ⌝ }
     ensures { λ b. ⌜ b ≡ fits-here (now (slots .entry)) k ⌝ }
 {
     let l = left(slots, k);
@@ -88,7 +100,13 @@ pub fn fits(slots: &[u64], k: u64) -> bool
     if (words < 6 * l) | (words < 6 * r) {
         return false;
     }
-    exact_height(slots, k, l, r) & exact_size(slots, k, l, r) & exact_max(slots, k, l, r)
+    if l == 0 {
+        return fits_one(slots, k, r);
+    }
+    if r == 0 {
+        return fits_one(slots, k, l);
+    }
+    fits_both(slots, k, l, r)
 }
 
 // Whether the words of slot k are zeros, but for links.

@@ -11,7 +11,7 @@ use borrow.Author.Tests.{eq-eqb, ne-eqb, eqb-true}
 use Rattle.rules.specs.Limits.{most-slots}
 use Rattle.rules.specs.Tree.{Tree, leaf, node, entries, root}
 use Rattle.rules.specs.Pool.{ascending, times, slots}
-use Rattle.rules.specs.Stored.{Stored, none, live}
+use Rattle.rules.specs.Stored.{slot-word, Stored, none, live}
 use Rattle.rules.proofs.Tests.{and-true, true-and}
 use Rattle.rules.proofs.Times.{times-one, times-node}
 use Rattle.node.specs.Node.{levels-at}
@@ -21,6 +21,20 @@ use Rattle.sound.proofs.Decisions.{not-both}
 use Rattle.sound.proofs.Marks.{claim-flags, claim-one, claim-none, unclaimed-before}
 use Rattle.clauses.proofs.Nodes.{Fitting, fits-says, says-fits}
 use Rattle.sound.proofs.Grows.{Parts, grown-node, grown-parts, stored-once}
+
+-- slot k passed the look at itself: it was not claimed, and it fits
+pub record Passed (ss ms : List ℕ) (k : ℕ) : Type 0 where
+  pub free : getD ms k 0 ≡ 0
+  pub fitting : Fitting ss k
+
+pub passes : {ss ms : List ℕ} {k : ℕ} {free fit : Bool} → free ≡ eqb (getD ms k 0) 0 → fit ≡ fits-here ss k
+    → free && fit ≡ true → Passed ss ms k
+passes {ss} {ms} {k} {free} {fit} is-free is-fit both =
+    let each = and-true free fit both in
+    record {
+      free = eqb-true (getD ms k 0) 0 (sym is-free ∙ each .0);
+      fitting = fits-says ss k (sym is-fit ∙ each .1);
+    }
 
 -- two numbers are below one more than the larger
 below-max : (a b : ℕ) → (a < suc (max a b)) × (b < suc (max a b))
@@ -94,10 +108,9 @@ module _ {ss ms : List ℕ} {k before after : ℕ} (low : 1 ≤ k) (ready : Read
             (unclaimed-before (claim-one ms k flags small (free-root p u)) (λ s. omega (arith, p .counts s)) u));
       }
 
-  module _ {free fit : Bool} (is-free : free ≡ eqb (getD ms k 0) 0) (is-fit : fit ≡ fits-here ss k)
-      (passed : free && fit ≡ true) where
+  module _ (passed : Passed ss ms k) where
     fitting : Fitting ss k
-    fitting = fits-says ss k (sym is-fit ∙ and-true free fit passed .1)
+    fitting = passed .fitting
 
     levels-here : levels-at ss k ≡ suc (max (levels-at ss (left-in ss k)) (levels-at ss (right-in ss k)))
     levels-here = rw (ne-eqb k 0 (λ z. omega arith)) (ap suc (fitting .height-is))
@@ -109,42 +122,44 @@ module _ {ss ms : List ℕ} {k before after : ℕ} (low : 1 ≤ k) (ready : Read
     right-lower : levels-at ss (right-in ss k) < levels-at ss k
     right-lower = rw levels-here (below-max (levels-at ss (left-in ss k)) (levels-at ss (right-in ss k)) .1)
 
-    -- so each can be looked at, with twice the levels and one as the measure
-    pub ready-left : {mid : List ℕ} {l t : ℕ} → mid ≡ set ms k 1 → l ≡ left-in ss k → 2 * levels-at ss k ≡ t
-        → (2 * levels-at ss l + 1 < t) × Ready ss mid l before k
-    ready-left is-mid is-left is-high =
-        rw (is-left, is-mid, ← is-high) (
-          omega (arith, left-lower),
-          record {
-            room = ready .room;
-            flags = claim-flags ms k flags small;
-            at = fitting .left-at;
-            before-at = ready .before-at;
-            after-at = ready .at;
-            low = omega (arith, left-lower, ready .low);
-          },
-        )
+    -- so the measure falls, which is twice the levels, and one more on the left
+    pub left-falls : {l t : ℕ} → l ≡ left-in ss k → 2 * levels-at ss k ≤ t → 2 * levels-at ss l + 1 < t
+    left-falls is-left high = rw is-left (omega (arith, left-lower))
 
-    pub ready-right : {mid end : List ℕ} {l r t : ℕ} → Judged ss l before k mid end true → r ≡ right-in ss k
-        → 2 * levels-at ss k ≡ t → (2 * levels-at ss r + 1 < t) × Ready ss end r k after
-    ready-right on-left is-right is-high =
-        rw (is-right, ← is-high) (
-          omega (arith, right-lower),
-          record {
-            room = ready .room;
-            flags = on-left .accepted refl .2 .flags;
-            at = fitting .right-at;
-            before-at = ready .at;
-            after-at = ready .after-at;
-            low = omega (arith, right-lower, ready .low);
-          },
-        )
+    pub right-falls : {r : ℕ} → r ≡ right-in ss k → levels-at ss r < levels-at ss k
+    right-falls is-right = rw is-right right-lower
+
+    -- and each can be looked at
+    pub ready-left : {mid : List ℕ} {l : ℕ} → mid ≡ set ms k 1 → l ≡ left-in ss k → Ready ss mid l before k
+    ready-left is-mid is-left =
+        rw (is-left, is-mid)
+        (record {
+          room = ready .room;
+          flags = claim-flags ms k flags small;
+          at = fitting .left-at;
+          before-at = ready .before-at;
+          after-at = ready .at;
+          low = omega (arith, left-lower, ready .low);
+        })
+
+    pub ready-right : {mid end : List ℕ} {l r : ℕ} → Judged ss l before k mid end true → r ≡ right-in ss k
+        → Ready ss end r k after
+    ready-right on-left is-right =
+        rw is-right
+        (record {
+          room = ready .room;
+          flags = on-left .accepted refl .2 .flags;
+          at = fitting .right-at;
+          before-at = ready .at;
+          after-at = ready .after-at;
+          low = omega (arith, right-lower, ready .low);
+        })
 
     -- where a tree is grown on the left, it is as on the right
     judged-on : {end left : List ℕ} {verdict : Bool} → Judged ss (left-in ss k) before k (set ms k 1) end true
         → Judged ss (right-in ss k) k after end left verdict → Judged ss k before after ms left verdict
     judged-on {end} {left} on-left on-right =
-        let one = claim-one ms k flags small (eqb-true (getD ms k 0) 0 (sym is-free ∙ and-true free fit passed .0)) in
+        let one = claim-one ms k flags small (passed .free) in
         let a = on-left .accepted refl in
         record {
           accepted = λ yes.
@@ -181,3 +196,25 @@ module _ {ss ms : List ℕ} {k before after : ℕ} (low : 1 ≤ k) (ready : Read
         → Judged ss k before after ms left verdict
     judged-right is-mid is-left is-right on-left on-right =
         judged-on (rw (is-mid, is-left) at on-left) (rw is-right at on-right)
+
+    -- a slot without children has none on either side, and only the order around it is left to look at
+    module _ {mid : List ℕ} (childless : slot-word ss k 4 ≡ 0) (is-mid : mid ≡ set ms k 1) where
+      none-left : 0 ≡ left-in ss k
+      none-left = omega arith
+
+      none-right : 0 ≡ right-in ss k
+      none-right = omega arith
+
+      below-left : {ordered : Bool} → ordered ≡ ascending (bound ss before ++ bound ss k)
+          → Judged ss 0 before k mid mid ordered
+      below-left is = judged-none (ready-left is-mid none-left) refl is
+
+      pub judged-first : {left : List ℕ} → false ≡ ascending (bound ss before ++ bound ss k)
+          → Judged ss k before after ms left false
+      judged-first is = judged-left is-mid none-left (below-left is)
+
+      pub judged-second : {ordered : Bool} → true ≡ ascending (bound ss before ++ bound ss k)
+          → ordered ≡ ascending (bound ss k ++ bound ss after) → Judged ss k before after ms mid ordered
+      judged-second first is =
+          let on-left = below-left first in
+          judged-right is-mid none-left none-right on-left (judged-none (ready-right on-left none-right) refl is)

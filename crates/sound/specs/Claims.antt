@@ -8,7 +8,7 @@ use lib.ListN.{length, getD}
 use Rattle.rules.specs.Limits.{most-slots, most-pending, slot-words}
 use Rattle.rules.specs.Tree.{Tree, entries}
 use Rattle.rules.specs.Pool.{Pool, Holds, ascending, balanced, slots, times, first}
-use Rattle.rules.specs.Stored.{Rooted, Chained}
+use Rattle.rules.specs.Stored.{slot-word, Rooted, Chained}
 use Rattle.node.specs.Node.{levels-at}
 use Rattle.clauses.specs.Slot.{bound}
 
@@ -44,6 +44,11 @@ pub record Grown (ss : List ℕ) (k before after : ℕ) (t : Tree) : Type 0 wher
   pub rooted : Rooted ss k t
   pub even : balanced t ≡ true
   pub in-order : ascending (bound ss before ++ (entries t ++ bound ss after)) ≡ true
+
+-- slot k is there and has a child
+pub record Parent (ss : List ℕ) (k : ℕ) : Type 0 where
+  pub from-one : 1 ≤ k
+  pub linked : 1 ≤ slot-word ss k 4
 
 -- what a look at slot k may rely on: it is a slot or none, and not too high
 pub record Ready (ss ms : List ℕ) (k before after : ℕ) : Type 0 where

@@ -1,5 +1,6 @@
 // The soundness check of document 01: whether lent words hold a pool, and so whether an entry may go to work on them.
 use clauses::fits;
+use clauses::fits_alone;
 use clauses::header;
 use clauses::in_order;
 use clauses::left;
@@ -7,13 +8,13 @@ use clauses::right;
 use clauses::zeros;
 ghost use mathlib.Core.Path.{_≡_};
 ghost use mathlib.Core.Bool.{true};
-ghost use Prim.Native.Nat.{_≤_, _<_};
+ghost use Prim.Native.Nat.{_*_, _≤_, _<_};
 ghost use lib.Dec.{eqb};
 ghost use lib.ListN.{length, getD, set};
 ghost use Rattle.rules.specs.Pool.{right-length};
 ghost use Rattle.rules.specs.Entries.{check};
 ghost use Rattle.sound.specs.Answer.{number-of};
-ghost use Rattle.sound.specs.Claims.{Decides, IsSound, Ready, Judged, Chain, Flags, Room};
+ghost use Rattle.sound.specs.Claims.{Decides, IsSound, Parent, Ready, Judged, Chain, Flags, Room};
 
 // The most slots of a pool.
 const MOST_SLOTS: usize = 4095;
@@ -36,30 +37,66 @@ fn claim(marks: &mut [u8], k: u64) -> bool
     before == 0
 }
 
-// Whether what is in slot k, none for 0, is a tree of slots that weren't claimed before, all of it right, between the
-// entries in slots `before` and `after`. Claims its slots.
-fn tree(slots: &[u64], marks: &mut [u8], k: u64, before: u64, after: u64) -> bool
+// Whether slot k is there and has a child.
+fn has_children(slots: &[u64], k: u64) -> bool
+    requires { ⌜ 6 * k ≤ length (now slots) ⌝ }
+    ensures { λ b. ⌜ Decides (Parent (now (slots .entry)) k) b ⌝ }
+{
+    if k == 0 {
+        return false;
+    }
+    node::word(slots, k, 4) != 0
+}
+
+// Whether what is in slot `root`, none for 0, is a tree of slots that weren't claimed before, all of it right, between
+// the entries in slots `from` and `after`. Claims its slots. It goes down the right side: each slot with children bounds
+// what is on its left, which is looked at first, and what is on its right.
+fn tree(slots: &[u64], marks: &mut [u8], root: u64, from: u64, after: u64) -> bool
+    requires { ⌜ Ready (now slots) (now marks) root from after ⌝ }
+    ensures { λ b. ⌜ Judged (now (slots .entry)) root from after (now (marks .entry)) (now (marks .exit)) b ⌝ }
+{
+    let mut k = root;
+    let mut before = from;
+    while has_children(slots, k) {
+        if !(claim(marks, k) & fits(slots, k)) {
+            return false;
+        }
+        if !subtree(slots, marks, left(slots, k), before, k) {
+            return false;
+        }
+        before = k;
+        k = right(slots, k);
+    }
+    tip(slots, marks, k, before, after)
+}
+
+// The same, where a slot without children costs no call of `tree`.
+fn subtree(slots: &[u64], marks: &mut [u8], k: u64, before: u64, after: u64) -> bool
     requires { ⌜ Ready (now slots) (now marks) k before after ⌝ }
+    ensures { λ b. ⌜ Judged (now (slots .entry)) k before after (now (marks .entry)) (now (marks .exit)) b ⌝ }
+{
+    if has_children(slots, k) {
+        tree(slots, marks, k, before, after)
+    } else {
+        tip(slots, marks, k, before, after)
+    }
+}
+
+// The same of none, or of a slot without children.
+fn tip(slots: &[u64], marks: &mut [u8], k: u64, before: u64, after: u64) -> bool
+    requires { ⌜ Ready (now slots) (now marks) k before after × (Parent (now slots) k → ⊥) ⌝ }
     ensures { λ b. ⌜ Judged (now (slots .entry)) k before after (now (marks .entry)) (now (marks .exit)) b ⌝ }
 {
     if k == 0 {
         return in_order(slots, before, after);
     }
-    branch(slots, marks, k, before, after)
-}
-
-// The same of a slot that isn't none: it is claimed, then both children are looked at, it being the bound between them.
-fn branch(slots: &[u64], marks: &mut [u8], k: u64, before: u64, after: u64) -> bool
-    requires { ⌜ (1 ≤ k) × Ready (now slots) (now marks) k before after ⌝ }
-    ensures { λ b. ⌜ Judged (now (slots .entry)) k before after (now (marks .entry)) (now (marks .exit)) b ⌝ }
-{
-    if !(claim(marks, k) & fits(slots, k)) {
+    if !(claim(marks, k) & fits_alone(slots, k)) {
         return false;
     }
-    if !tree(slots, marks, left(slots, k), before, k) {
+    if !in_order(slots, before, k) {
         return false;
     }
-    tree(slots, marks, right(slots, k), k, after)
+    in_order(slots, k, after)
 }
 
 // Whether n slots that weren't claimed before are chained as free ones from slot `first` on. Claims them.

@@ -1,6 +1,8 @@
 -- `fits` is the test of a slot over its children. Assumes nothing.
-use Rattle.clauses.proofs.Nodes.{beyond-words, within-words, exact-fits}
+use Rattle.clauses.proofs.Nodes.{beyond-words, within-words, exact-fits, only-left, only-right}
 use Prim.Native.Nat.{_*_, _≤_}
+use mathlib.Core.Path.{_∙_}
+use native.Mathlib.Omega.{arith}
 use lib.ListN.{length}
 use borrow.Author.Needs.{needs}
 use Rattle.clauses.proofs.fits.Statement.{statement}
@@ -30,22 +32,63 @@ both-in : (c : tie.Else1)
     (6 * c .before .before .left .result ≤ words) × (6 * c .before .right .result ≤ words)
 both-in c = within-words (c .if1 .left)
 
-exact-height-requires : tie.Need-exact-height-requires
-exact-height-requires c κs = let both = both-in c in (search needs, both .0, both .1)
-
-exact-size-requires : tie.Need-exact-size-requires
-exact-size-requires c κs = let both = both-in (c .before) in (search needs, both .0, both .1)
-
-exact-max-requires : tie.Need-exact-max-requires
-exact-max-requires c κs = let both = both-in (c .before .before) in (search needs, both .0, both .1)
+fits-one-requires : tie.Need-fits-one-requires
+fits-one-requires c κs =
+    let tested = c .before in
+    let start = tested .before .before .before .before in (
+      start .pre .0,
+      record {
+        from-one =
+            omega (
+              arith,
+              start .pre .1,
+              tested .before .before .left .ensures,
+              tested .before .right .ensures .0,
+              c .if2 .taken,
+            );
+        inside = both-in tested .1;
+      },
+    )
 
 returns-2 : tie.Need-returns-2
 returns-2 c =
+    let tested = c .before .before in
+    let start = tested .before .before .before .before in
+    c .fits-one .ensures
+    ∙ only-right (start .args .slots .now) (start .args .k) (tested .before .before .left .ensures)
+    (tested .before .right .ensures .0) (c .before .if2 .taken) (both-in tested)
+
+fits-one-requires-2 : tie.Need-fits-one-requires-2
+fits-one-requires-2 c κs =
+    let tested = c .before .before in
+    let start = tested .before .before .before .before in
+    (start .pre .0, record { from-one = omega (arith, c .before .if2 .left); inside = both-in tested .0 })
+
+returns-3 : tie.Need-returns-3
+returns-3 c =
     let tested = c .before .before .before in
     let start = tested .before .before .before .before in
-    rw (c .before .before .exact-height .ensures, c .before .exact-size .ensures, c .exact-max .ensures)
-    (exact-fits (start .args .slots .now) (start .args .k) (tested .before .before .left .ensures)
-    (tested .before .right .ensures .0) (both-in tested))
+    c .fits-one2 .ensures
+    ∙ only-left (start .args .slots .now) (start .args .k) (tested .before .before .left .ensures)
+    (tested .before .right .ensures .0) (c .before .if3 .taken) (both-in tested)
+
+fits-both-requires : tie.Need-fits-both-requires
+fits-both-requires c κs =
+    let tested = c .before .before in
+    let start = tested .before .before .before .before in
+    let both = both-in tested in (
+      start .pre .0,
+      record { from-one = omega (arith, c .before .if2 .left); inside = both .0 },
+      record { from-one = omega (arith, c .if3 .left); inside = both .1 },
+    )
+
+returns-4 : tie.Need-returns-4
+returns-4 c =
+    let tested = c .before .before .before in
+    let start = tested .before .before .before .before in
+    c .fits-both .ensures
+    ∙ exact-fits (start .args .slots .now) (start .args .k) (tested .before .before .left .ensures)
+    (tested .before .right .ensures .0) (both-in tested)
 
 pub fits-spec : {M : Type 1} → statement M
 fits-spec =
@@ -56,7 +99,9 @@ fits-spec =
     mul-if1
     mul-if1-2
     returns
-    exact-height-requires
-    exact-size-requires
-    exact-max-requires
-    returns-2)
+    fits-one-requires
+    returns-2
+    fits-one-requires-2
+    returns-3
+    fits-both-requires
+    returns-4)

@@ -58,6 +58,7 @@ fn times(repeats: usize) {
         "hits of a query on average: {:.2}; repetitions: {repeats}; nanoseconds of processor time",
         scene.compare()
     );
+    println!("both checks say the same of {} pools with a word changed", Scene::new(100, 1, 120).compare_checks());
     println!("| what | library, least | other, least | ratio | library, median | other, median | ratio |");
     println!("|---|---|---|---|---|---|---|");
     let edits = 2 * ENTRIES as usize;

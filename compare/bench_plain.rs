@@ -10,12 +10,14 @@ struct Check<'a> {
 type Shape = (u64, u64, u64);
 
 impl<'a> Check<'a> {
-    /// The six words of a slot that wasn't claimed before, which claims it.
+    /// The six words of a slot that is one and wasn't claimed before, which claims it.
     fn claim(&mut self, slot: u64) -> Option<&'a [u64]> {
+        if slot > (self.slots.len() / 6) as u64 {
+            return None;
+        }
         let at = 6 * (slot as usize).checked_sub(1)?;
-        let words = self.slots.get(at..at + 6)?;
         let claimed = std::mem::replace(&mut self.claimed[slot as usize], true);
-        (!claimed).then_some(words)
+        (!claimed).then(|| &self.slots[at..at + 6])
     }
 
     /// The shape of the subtree in a slot, between two bounds and no higher than allowed, if all of it is right.

@@ -62,6 +62,23 @@ impl Scene {
         sum as f64 / self.load.queries.len() as f64
     }
 
+    /// Holds the two checks to each other where one word of the pool is another: how many of these pools were tried.
+    pub fn compare_checks(&self) -> usize {
+        let mut pool = self.pool.clone();
+        let mut tried = 0;
+        for at in 0..pool.len() {
+            let word = pool[at];
+            for other in [0, 1, word ^ 1, word ^ (1 << 16), word << 16, word ^ (1 << 63), u64::MAX / 6 + 2, u64::MAX] {
+                pool[at] = other;
+                let numbers = (sides::bench_library_check(&pool), bench_plain_check(&pool));
+                assert_eq!(numbers.0, numbers.1, "word {at} as {other}");
+                tried += 1;
+            }
+            pool[at] = word;
+        }
+        tried
+    }
+
     /// Feeds the inserts, or all edits, to a fresh pool, and makes the same edits on an empty tree.
     pub fn feeds(&self, deletes: bool, repeats: usize) -> Pair {
         let bytes = if deletes { &self.edits } else { &self.inserts };

@@ -3,7 +3,7 @@ use node::Factor;
 ghost use mathlib.Core.Path.{_≡_};
 ghost use Prim.Native.Nat.{_%_, _/_, _≤_};
 ghost use Rattle.rules.specs.Tree.{Entry, Tree, levels};
-ghost use Rattle.rules.specs.Balance.{join, lift, straight, mend, balance, balanced-join, near, other};
+ghost use Rattle.rules.specs.Balance.{join, lift, straight, mend, balance, near, other};
 ghost use Rattle.rules.specs.Limits.{half};
 ghost use Rattle.rules.specs.Stored.{slot-word, Within, Rooted};
 ghost use Rattle.rules.specs.Stored as stored;
@@ -85,7 +85,7 @@ fn straighten(slots: &mut [u64], side: Side, a: u64) -> u64
 }
 
 // Mends slot k, whose child `a` on the side is too high for its child `b` on the other. Answers the slot that came up.
-fn mend(slots: &mut [u64], side: Side, k: u64, a: u64, b: u64) -> u64
+pub fn mend(slots: &mut [u64], side: Side, k: u64, a: u64, b: u64) -> u64
     requires { ⌜ ((e : Entry) × (t : Tree) × (u : Tree) × Hung (now slots) k a b e t u × (1 ≤ levels t)) ⌝ }
     ensures { λ top. ⌜ ((e : Entry) (t u : Tree) → Hung (now (slots .entry)) k a b e t u → 1 ≤ levels t → stored.Left (now (slots .entry)) (now (slots .exit)) top (mend (side-of side) e t u)) ⌝ }
 {
@@ -107,17 +107,5 @@ pub fn balance(slots: &mut [u64], k: u64, l: u64, r: u64) -> u64
             node::update_over(slots, k, l, r, left, right);
             k
         }
-    }
-}
-
-// Makes `a` the child of slot k on the side and `b` its child on the other side, and balances it. Answers the slot that
-// is then on top.
-pub fn rebalance(slots: &mut [u64], side: Side, k: u64, a: u64, b: u64) -> u64
-    requires { ⌜ ((e : Entry) × (t : Tree) × (u : Tree) × Hung (now slots) k a b e t u) ⌝ }
-    ensures { λ top. ⌜ ((e : Entry) (t u : Tree) → Hung (now (slots .entry)) k a b e t u → stored.Left (now (slots .entry)) (now (slots .exit)) top (balanced-join (side-of side) e t u)) ⌝ }
-{
-    match side {
-        Side::Left => balance(slots, k, a, b),
-        Side::Right => balance(slots, k, b, a),
     }
 }

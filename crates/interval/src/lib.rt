@@ -2,7 +2,7 @@
 ghost use mathlib.Core.Path.{_≡_};
 ghost use Prim.Native.Nat.{max, min};
 ghost use Rattle.rules.specs.Range.{range, order, is-valid, overlaps, intersect, range-to, included};
-ghost use Rattle.interval.specs.Interval.{range-of, order-of, shared-of, included-of, is-same};
+ghost use Rattle.interval.specs.Interval.{range-of, order-of, shared-of, included-of, is-less, is-same};
 
 // How two ranges stand.
 pub enum Ordering {
@@ -41,6 +41,23 @@ fn smaller(a: u64, b: u64) -> u64
     ensures { λ r. ⌜ r ≡ min a b ⌝ }
 {
     if a < b { a } else { b }
+}
+
+// Whether the range start..end comes before the range here..last: by start, then by end.
+pub fn before(start: u64, end: u64, here: u64, last: u64) -> bool
+    ensures { λ r. ⌜ r ≡ is-less (order (range start end) (range here last)) ⌝ }
+{
+    if start == here {
+        return end < last;
+    }
+    start < here
+}
+
+// Whether both numbers of the range start..end are those of the range here..last.
+pub fn same(start: u64, end: u64, here: u64, last: u64) -> bool
+    ensures { λ r. ⌜ r ≡ is-same (order (range start end) (range here last)) ⌝ }
+{
+    (start == here) & (end == last)
 }
 
 impl Interval {
@@ -116,10 +133,13 @@ impl Interval {
         }
     }
 
-    // Whether two ranges overlap.
+    // Whether two ranges overlap: each start is below each end.
     pub fn overlaps(self, other: Interval) -> bool
         ensures { λ r. ⌜ r ≡ overlaps (range-of self) (range-of other) ⌝ }
     {
-        larger(self.start, other.start) < smaller(self.end, other.end)
+        (self.start < self.end)
+            & (self.start < other.end)
+            & (other.start < self.end)
+            & (other.start < other.end)
     }
 }

@@ -16,6 +16,7 @@ pub mod Stored
 pub mod Times
 pub mod Balanced
 pub mod Edits
+pub mod Counted
 pub mod Inorder
 pub mod Lists
 pub mod Places

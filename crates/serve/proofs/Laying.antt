@@ -12,7 +12,8 @@ use Rattle.rules.specs.Tree.{entries}
 use Rattle.rules.specs.Pool.{Pool, words, capacity, good, ascending, Holds}
 use Rattle.rules.proofs.Lengths.{roomy}
 use Rattle.rules.proofs.Once.{claims, good-says, at-most-once}
-use Rattle.rules.proofs.Stored.{Laid, laid-words}
+use Rattle.rules.proofs.Stored.{Laid, laid-words, holds-rooted}
+use Rattle.tree.specs.Edits.{Standing}
 
 -- a header word is kept where the header is
 pub header-kept : (i : ℕ) (ws after : List ℕ) → i < header-words → take header-words after ≡ take header-words ws → getD after i 0 ≡ getD ws i 0
@@ -44,3 +45,8 @@ in-order {ws} {p} h = good-says (capacity (length ws)) p (h .is-good) .in-order
 -- the header's words of a held pool are there
 pub header-there : {ws : List ℕ} {p : Pool} → Holds ws p → 10 ≤ length ws
 header-there {ws} h = let room = roomy (length ws) (h .right) in omega arith
+
+-- and its tree is balanced
+pub holds-standing : {ws : List ℕ} {p : Pool} → Holds ws p → Standing (drop header-words ws) (getD ws 0 0) (p .tree)
+holds-standing {ws} {p} h =
+    record { rooted = holds-rooted h; is-balanced = good-says (capacity (length ws)) p (h .is-good) .even }

@@ -1,5 +1,5 @@
 -- An insert into a sound pool: what its calls are given, and that the answer is the rules'. Assumes nothing.
-use Prim.Native.Nat.{ℕ, _+_, _≤_, _<_}
+use Prim.Native.Nat.{ℕ, _+_, _%_, _≤_, _<_}
 use mathlib.Core.Bool.{true, false}
 use mathlib.Core.List.{List, [], _∷_}
 use mathlib.Core.Option.{Option, none, some}
@@ -12,22 +12,21 @@ use Rattle.rules.specs.Tree.{Entry, Tree}
 use Rattle.rules.specs.Edit.{find, insert}
 use Rattle.rules.specs.Pool.{Pool, pool, capacity, good, times, slots, first, Holds}
 use Rattle.rules.specs.Request.{inserting, serve, insert-into}
-use Rattle.rules.specs.Stored.{slot-word, Within, Chained, goes-on}
+use Rattle.rules.specs.Stored.{slot-word, Within, Chained, goes-on, Left}
 use Rattle.rules.proofs.Times.{times-front, times-cons}
 use Rattle.rules.proofs.Once.{all-slots}
 use Rattle.rules.proofs.Lengths.{roomy}
 use Rattle.rules.proofs.Searching.{adds-insert, adds-size}
 use Rattle.rules.proofs.Serving.{good-serve}
-use Rattle.rules.proofs.Stored.{holds-laid, holds-rooted}
+use Rattle.rules.proofs.Stored.{holds-laid}
 use Rattle.node.specs.Node.{entry}
 use Rattle.pool.specs.Around.{Header, Claimed}
 use Rattle.pool.proofs.Chains.{chained-kept}
 use Rattle.tree.specs.Edits.{is-some, Inserting, Inserts}
-use Rattle.tree.specs.declared.Inserted.the-variants.{At, There as Stays}
 use Rattle.tree.proofs.Inserting.{times-inserted}
 use Rattle.serve.specs.Answers.{Answers}
 use Rattle.serve.specs.declared.Answer.the-variants.{Done, There, Full}
-use Rattle.serve.proofs.Laying.{same-words, header-kept, left-words, claimed-once, in-order, header-there}
+use Rattle.serve.proofs.Laying.{same-words, header-kept, left-words, claimed-once, in-order, header-there, holds-standing}
 
 -- the first free slot is a slot that no entry has
 free-slot : {ws : List ℕ} {t : Tree} {s : ℕ} {rest : List ℕ} → Holds ws (pool t (s ∷ rest))
@@ -57,7 +56,7 @@ inserting-first {ws} p h there = go (p .free) h
     go (s ∷ rest) h =
         let is = holds-laid h .head .free-word in
         let slot = free-slot h in
-        record { rooted = holds-rooted h; within = rw is (slot .0); absent = rw is (slot .1) }
+        record { standing = holds-standing h; within = rw is (slot .0); absent = rw is (slot .1) }
 
 pub free-within : {ws : List ℕ} (p : Pool) → Holds ws p → (getD ws 1 0 ≡ 0 → ⊥) → Within (drop header-words ws) (getD ws 1 0)
 free-within p h there = inserting-first p h there .within
@@ -90,20 +89,25 @@ answers-full {ws} p k v h e new = go (find k (p .tree)) (p .free) new (full (p .
     go (some x) free f e = absurd (let z : _≡_ {A = ℕ} 0 1 = cc in omega arith)
 
 -- the tree's own insert found the range: nothing was written
-pub answers-kept : {ws after : List ℕ} (p : Pool) (k : Range) (v : ℕ) → Holds ws p → (getD ws 1 0 ≡ 0 → ⊥)
+pub answers-kept : {ws after : List ℕ} {top : ℕ} (p : Pool) (k : Range) (v : ℕ) → Holds ws p → (getD ws 1 0 ≡ 0 → ⊥)
     → take header-words after ≡ take header-words ws
     → ((t : Tree) → Inserting (drop header-words ws) (getD ws 0 0) (getD ws 1 0) t
-    → Inserts Stays (drop header-words ws) (drop header-words after) (entry (getD ws 1 0) (k .start) (k .end) v) t)
+    → Inserts top (drop header-words ws) (drop header-words after) (entry (getD ws 1 0) (k .start) (k .end) v) t)
+    → top ≡ 0
     → Answers ws after There (insert-into (find k (p .tree)) (p .free) k v p)
-answers-kept {ws} {after} p k v h there head done =
-    let told = done (p .tree) (inserting-first p h there) in
+answers-kept {ws} {after} p k v h there head done is =
+    let told = done (p .tree) (inserting-first p h there) .there is in
     rw (same-words ws after head (told .1)) (answers-there k v h (rw (told .0 .1) refl))
+
+-- the entry is in the tree that is left at the root
+abbrev Puts : ℕ → List ℕ → List ℕ → Entry → Tree → Type 0
+Puts root ss after x t = (find (x .range) t ≡ none) × Left ss after root (insert x t)
 
 -- the entry went in: its slot is off the chain, and the header says so
 answers-put : {ws after : List ℕ} {top : ℕ} (between : List ℕ) (p : Pool) (k : Range) (v : ℕ) → Holds ws p → (getD ws 1 0 ≡ 0 → ⊥)
     → take header-words between ≡ take header-words ws
     → ((t : Tree) → Inserting (drop header-words ws) (getD ws 0 0) (getD ws 1 0) t
-    → Inserts (At top) (drop header-words ws) (drop header-words between) (entry (getD ws 1 0) (k .start) (k .end) v) t)
+    → Puts top (drop header-words ws) (drop header-words between) (entry (getD ws 1 0) (k .start) (k .end) v) t)
     → length after ≡ length ws
     → drop header-words after ≡ drop header-words between
     → Header after top (slot-word (drop header-words ws) (getD ws 1 0) 4) (getD ws 2 0 + 1) 0
@@ -114,7 +118,7 @@ answers-put {ws} {after} {top} between p k v h there head done long same header 
     rw (told .0) (go (p .free) h told)
   where
     go : (free : List ℕ) → Holds ws (pool (p .tree) free)
-        → Inserts (At top) (drop header-words ws) (drop header-words between) (entry (getD ws 1 0) (k .start) (k .end) v) (p .tree)
+        → Puts top (drop header-words ws) (drop header-words between) (entry (getD ws 1 0) (k .start) (k .end) v) (p .tree)
         → Answers ws after Done (insert-into none free k v p)
     go [] h told = absurd (there (holds-laid h .head .free-word))
     go (s ∷ rest) h told =
@@ -154,17 +158,21 @@ answers-put {ws} {after} {top} between p k v h there head done long same header 
         goes (goes-on f chain) = chain
 
 -- the same, as the calls leave it
-pub answers-claimed : {ws after : List ℕ} {top next : ℕ} (between : List ℕ) (p : Pool) (k : Range) (v : ℕ) → Holds ws p
+pub answers-claimed : {ws after : List ℕ} {top root next : ℕ} (between : List ℕ) (p : Pool) (k : Range) (v : ℕ) → Holds ws p
     → (getD ws 1 0 ≡ 0 → ⊥)
     → take header-words between ≡ take header-words ws
     → ((t : Tree) → Inserting (drop header-words ws) (getD ws 0 0) (getD ws 1 0) t
-    → Inserts (At top) (drop header-words ws) (drop header-words between) (entry (getD ws 1 0) (k .start) (k .end) v) t)
+    → Inserts top (drop header-words ws) (drop header-words between) (entry (getD ws 1 0) (k .start) (k .end) v) t)
+    → (top ≡ 0 → ⊥)
+    → root ≡ top % half
     → length between ≡ length ws
     → next ≡ slot-word (drop header-words ws) (getD ws 1 0) 4
-    → Claimed between after top next
+    → Claimed between after root next
     → Answers ws after Done (insert-into (find k (p .tree)) (p .free) k v p)
-answers-claimed {ws} between p k v h there head done long next-is claimed =
-    answers-put between p k v h there head done (claimed .long ∙ long) (claimed .same-slots)
+answers-claimed {ws} between p k v h there head done answered root-is long next-is claimed =
+    answers-put between p k v h there head
+    (λ t i. let put = done t i .put answered in (put .0, rw root-is (put .1 .left)))
+    (claimed .long ∙ long) (claimed .same-slots)
     (record {
       root-word = claimed .header .root-word;
       free-word = claimed .header .free-word ∙ next-is;

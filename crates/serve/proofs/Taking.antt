@@ -22,14 +22,14 @@ use Rattle.node.proofs.Few.{inside}
 use Rattle.node.proofs.Trees.{stored-kept}
 use Rattle.pool.specs.Around.{Released}
 use Rattle.pool.proofs.Chains.{chained-kept}
-use Rattle.tree.specs.Edits.{Deletes, end-slot}
-use Rattle.tree.specs.declared.Deleted.the-variants.{Absent as Stays}
+use Rattle.tree.specs.Edits.{Standing, Deletes, end-slot}
+use Rattle.tree.specs.declared.Removed.{Removed}
 use Rattle.tree.proofs.Hanging.{not-node}
 use Rattle.tree.proofs.Deleting.{times-deleted}
 use Rattle.tree.proofs.Shedding.{times-ended}
 use Rattle.serve.specs.Answers.{Answers}
 use Rattle.serve.specs.declared.Answer.the-variants.{Done, Absent}
-use Rattle.serve.proofs.Laying.{same-words, header-kept, left-words, claimed-once, in-order}
+use Rattle.serve.proofs.Laying.{same-words, header-kept, left-words, claimed-once, in-order, holds-standing}
 
 -- A tree was left without one slot, which is then released: the words are those of the smaller pool.
 module _ {ws between after : List ℕ} {top slot : ℕ} {p : Pool} {u : Tree} (h : Holds ws p)
@@ -76,11 +76,12 @@ module _ {ws : List ℕ} (between : List ℕ) {top slot : ℕ} {p : Pool} {u : T
       (there .0, omega (arith, length-drop header-words between, length-drop header-words ws), omega arith)
 
 -- a delete of an absent range
-pub answers-absent : {ws after : List ℕ} {p : Pool} (k : Range) → Holds ws p → take header-words after ≡ take header-words ws
-    → ((t : Tree) → Rooted (drop header-words ws) (getD ws 0 0) t → Deletes Stays (drop header-words ws) (drop header-words after) k t)
+pub answers-absent : {ws after : List ℕ} {p : Pool} {gone : Removed} (k : Range) → Holds ws p → take header-words after ≡ take header-words ws
+    → ((t : Tree) → Standing (drop header-words ws) (getD ws 0 0) t → Deletes gone (drop header-words ws) (drop header-words after) k t)
+    → gone .slot ≡ 0
     → Answers ws after Absent (delete-from (find k (p .tree)) k p)
-answers-absent {ws} {after} {p} k h head done =
-    let told = done (p .tree) (holds-rooted h) in
+answers-absent {ws} {after} {p} k h head done is =
+    let told = done (p .tree) (holds-standing h) .absent is in
     rw (told .0, same-words ws after head (told .1)) (record { number-is = refl; words-are = h .all-words })
 
 -- what a delete that found the range left

@@ -4,8 +4,6 @@ use interval::Included;
 use interval::Interval;
 use reading::End;
 use reading::Request;
-use tree::Deleted;
-use tree::Inserted;
 use tree::Removed;
 ghost use mathlib.Core.Path.{_≡_};
 ghost use Prim.Native.Nat.{_≤_};
@@ -22,7 +20,7 @@ ghost use Rattle.rules.specs.Request.{inserting, deleting, querying, clearing, 
 ghost use Rattle.node.specs.Node.{entry};
 ghost use Rattle.interval.specs.Interval.{range-of, included-of};
 ghost use Rattle.balance.specs.Sides.{side-of};
-ghost use Rattle.tree.specs.Edits.{is-some, Inserting, Inserts, Deletes, Sheds};
+ghost use Rattle.tree.specs.Edits.{is-some, Standing, Inserting, Inserts, Deletes, Sheds};
 ghost use Rattle.reading.specs.Reading.{end-of, request-of};
 ghost use Rattle.serve.specs.Answers.{number-of, Answers, Serves};
 
@@ -55,28 +53,28 @@ pub fn number_of(answer: Answer) -> u64
 }
 
 // `tree::insert` into the slots, which are the words after the header.
-fn insert_slot(words: &mut [u64], root: u64, key: Interval, value: u64, new: u64) -> Inserted
+fn insert_slot(words: &mut [u64], root: u64, key: Interval, value: u64, new: u64) -> u64
     requires { ⌜ (header-words ≤ length (now words)) × ((t : Tree) × Inserting (drop header-words (now words)) root new t) ⌝ }
     ensures kept { λ _. ⌜ take header-words (now (words .exit)) ≡ take header-words (now (words .entry)) ⌝ }
     ensures done { λ r. ⌜ ((t : Tree) → Inserting (drop header-words (now (words .entry))) root new t → Inserts r (drop header-words (now (words .entry))) (drop header-words (now (words .exit))) (entry new (key .start) (key .end) value) t) ⌝ }
 {
-    tree::insert(&mut words[4..], root, key, value, new)
+    tree::insert(&mut words[4..], root, key.start, key.end, value, new)
 }
 
 // `tree::delete` from the slots.
-fn delete_slot(words: &mut [u64], root: u64, key: Interval) -> Deleted
-    requires { ⌜ (header-words ≤ length (now words)) × ((t : Tree) × Rooted (drop header-words (now words)) root t) ⌝ }
+fn delete_slot(words: &mut [u64], root: u64, key: Interval) -> Removed
+    requires { ⌜ (header-words ≤ length (now words)) × ((t : Tree) × Standing (drop header-words (now words)) root t) ⌝ }
     ensures kept { λ _. ⌜ take header-words (now (words .exit)) ≡ take header-words (now (words .entry)) ⌝ }
-    ensures done { λ r. ⌜ ((t : Tree) → Rooted (drop header-words (now (words .entry))) root t → Deletes r (drop header-words (now (words .entry))) (drop header-words (now (words .exit))) (range-of key) t) ⌝ }
+    ensures done { λ r. ⌜ ((t : Tree) → Standing (drop header-words (now (words .entry))) root t → Deletes r (drop header-words (now (words .entry))) (drop header-words (now (words .exit))) (range-of key) t) ⌝ }
 {
-    tree::delete(&mut words[4..], root, key)
+    tree::delete(&mut words[4..], root, key.start, key.end)
 }
 
 // `tree::delete_end` from the slots.
 fn delete_end_slot(words: &mut [u64], side: Side, root: u64) -> Removed
-    requires { ⌜ (header-words ≤ length (now words)) × ((t : Tree) × Rooted (drop header-words (now words)) root t × (1 ≤ levels t)) ⌝ }
+    requires { ⌜ (header-words ≤ length (now words)) × ((t : Tree) × Standing (drop header-words (now words)) root t × (1 ≤ levels t)) ⌝ }
     ensures kept { λ _. ⌜ take header-words (now (words .exit)) ≡ take header-words (now (words .entry)) ⌝ }
-    ensures done { λ r. ⌜ ((t : Tree) → Rooted (drop header-words (now (words .entry))) root t → 1 ≤ levels t → Sheds (side-of side) r (drop header-words (now (words .entry))) (drop header-words (now (words .exit))) t) ⌝ }
+    ensures done { λ r. ⌜ ((t : Tree) → Standing (drop header-words (now (words .entry))) root t → 1 ≤ levels t → Sheds (side-of side) r (drop header-words (now (words .entry))) (drop header-words (now (words .exit))) t) ⌝ }
 {
     tree::delete_end(&mut words[4..], side, root)
 }
@@ -86,7 +84,7 @@ fn contains_slot(words: &[u64], root: u64, key: Interval) -> bool
     requires { ⌜ (header-words ≤ length (now words)) × ((t : Tree) × Rooted (drop header-words (now words)) root t) ⌝ }
     ensures { λ r. ⌜ ((t : Tree) → Rooted (drop header-words (now (words .entry))) root t → r ≡ is-some (find (range-of key) t)) ⌝ }
 {
-    tree::contains(&words[4..], root, key)
+    tree::contains(&words[4..], root, key.start, key.end)
 }
 
 // The slot after a free slot in the chain, 0 for none.
@@ -111,13 +109,12 @@ fn insert(words: &mut [u64], key: Interval, value: u64) -> Answer
         return Answer::Full;
     }
     let next = next_free(words, free);
-    match insert_slot(words, root, key, value, free) {
-        Inserted::At(top) => {
-            pool::claim(words, top, next);
-            Answer::Done
-        }
-        Inserted::There => Answer::There,
+    let top = insert_slot(words, root, key, value, free);
+    if top == 0 {
+        return Answer::There;
     }
+    pool::claim(words, node::low(top), next);
+    Answer::Done
 }
 
 // Takes the range out of the pool.
@@ -126,13 +123,13 @@ fn delete(words: &mut [u64], key: Interval) -> Answer
     ensures { λ r. ⌜ ((p : Pool) → Holds (now (words .entry)) p → Answers (now (words .entry)) (now (words .exit)) r (delete-from (find (range-of key) (p .tree)) (range-of key) p)) ⌝ }
 {
     let root = words[0];
-    match delete_slot(words, root, key) {
-        Deleted::Gone(top, slot) => {
-            pool::release(words, top, slot);
-            Answer::Done
-        }
-        Deleted::Absent => Answer::Absent,
+    let gone = delete_slot(words, root, key);
+    let slot = gone.slot;
+    if slot == 0 {
+        return Answer::Absent;
     }
+    pool::release(words, node::low(gone.top), slot);
+    Answer::Done
 }
 
 // Takes the outermost entry on the side out of the pool.
@@ -145,7 +142,7 @@ fn delete_end(words: &mut [u64], side: Side) -> Answer
         return Answer::Absent;
     }
     let gone = delete_end_slot(words, side, root);
-    pool::release(words, gone.root, gone.slot);
+    pool::release(words, node::low(gone.top), gone.slot);
     Answer::Done
 }
 

@@ -1,23 +1,27 @@
 -- A child was changed by a call: it is hung in its place again and balanced. For either side, and for every edit.
 -- Assumes nothing.
-use Prim.Native.Nat.{ℕ, _+_, _≤_, _<_}
+use Prim.Native.Nat.{ℕ, suc, _+_, _*_, _%_, _≤_, _<_, max}
 use mathlib.Core.List.{List, [], _∷_, map}
-use mathlib.Core.Path.{_≡_, refl, sym, ap, _∙_}
+use mathlib.Core.Path.{_≡_, refl, sym, ap, subst, _∙_}
 use native.Mathlib.Omega.{arith}
-use Rattle.rules.specs.Range.{Range, range, Order, less, more, order}
-use Rattle.rules.specs.Tree.{Entry, Tree, leaf, node}
-use Rattle.rules.specs.Balance.{Side, left, right, near, far, balance, balanced-join}
+use mathlib.Core.Bool.{true, false}
+use Rattle.rules.specs.Limits.{slot-words, half}
+use Rattle.rules.specs.Range.{Range, range, Order, less, same, more, order}
+use Rattle.rules.specs.Tree.{Entry, Tree, leaf, node, levels, size, max-end}
+use Rattle.rules.specs.Balance.{Side, left, right, near, far, join, balance, balanced-join}
 use Rattle.rules.specs.Edit.{find}
 use Rattle.rules.specs.Pool.{times, slots}
 use Rattle.rules.specs.Stored.{slot-word, Within, Rooted, Left}
 use Rattle.rules.proofs.Times.{times-node, times-one}
 use Rattle.rules.proofs.Inorder.{entries-balance}
-use Rattle.interval.specs.Interval.{order-of}
-use Rattle.interval.specs.declared.Ordering.{Ordering}
+use Rattle.interval.specs.Interval.{is-same}
 use Rattle.node.specs.Node.{levels-at, Hung}
 use Rattle.node.proofs.Trees.{AtNode, at-node, at-root, bears-kept, rooted-kept, left-then}
-use Rattle.balance.proofs.Sides.{hung-turned, times-sides, rooted-near, rooted-far}
+use Rattle.balance.proofs.Sides.{times-sides, rooted-near, rooted-far}
 use Rattle.balance.proofs.Rotated.{near-child, far-child}
+use Rattle.settle.specs.Settling.{differs, Settles, Over}
+use Rattle.rules.proofs.Balanced.{Close, Balanced, both, Close-sides, of-near, balanced→Balanced, Balanced→balanced}
+use Rattle.tree.specs.Edits.{side-to, Standing}
 
 -- which way the order sends a search
 abbrev pub way : Side → Order
@@ -60,6 +64,23 @@ range-read {ss} {k} {e} p =
     let ends : slot-word ss k 1 ≡ e .range .end = rw (← p .slot-is) (p .bears .end-word) in
     λ i. record { start = begins i; end = ends i }
 
+-- a node is its children joined, seen from a side
+pub join-sides : (s : Side) (e : Entry) (l r : Tree) → node e l r ≡ join s e (near s l r) (far s l r)
+join-sides left e l r = refl
+join-sides right e l r = refl
+
+shape-sides : (s : Side) (l r : Tree)
+    → max (levels l) (levels r) + half * suc (size l + size r)
+    ≡ max (levels (near s l r)) (levels (far s l r)) + half * suc (size (near s l r) + size (far s l r))
+shape-sides left l r = refl
+shape-sides right l r =
+    let turned : max (levels r) (levels l) ≡ max (levels l) (levels r) = omega arith in
+    rw turned (omega arith)
+
+-- a balanced node's children, seen from a side
+pub parts : (s : Side) {e : Entry} {l r : Tree} → Balanced (node e l r) → Close (near s l r) (far s l r) × Balanced (near s l r)
+parts s (both c p q) = (Close-sides s c, of-near Balanced s p q)
+
 -- A node, its child a on the side and its child b on the other.
 module _ (s : Side) {ss : List ℕ} {k a b : ℕ} {e : Entry} {l r : Tree} (p : AtNode ss k e l r)
     (a-is : a ≡ near-child s ss k) (b-is : b ≡ far-child s ss k) where
@@ -86,19 +107,53 @@ module _ (s : Side) {ss : List ℕ} {k a b : ℕ} {e : Entry} {l r : Tree} (p : 
           once = apart;
         }
 
-    -- what balance is then given
-    pub hung-again : Hung between k (near s below b) (far s below b) e (near s t (far s l r)) (far s t (far s l r))
-    hung-again = on-side s beside
-      where
-        on-side : (s : Side) {u : Tree} → Hung between k below b e t u
-            → Hung between k (near s below b) (far s below b) e (near s t u) (far s t u)
-        on-side left h = h
-        on-side right h = hung-turned h
+    -- the words of the node's own slot are what they were
+    word-kept : (i : ℕ) → i < slot-words → slot-word between k i ≡ slot-word ss k i
+    word-kept i small =
+        rw (← p .slot-is)
+        (changed .kept .same (e .slot) i (p .bears .at .from-one) small (omega (arith, apart (e .slot), times-one (e .slot))))
+
+    pub near-yet : a ≡ near-child s between k
+    near-yet = rw (word-kept 4 (omega arith)) a-is
+
+    -- so the node stands over the changed child
+    pub over-yet : Close (near s l r) (far s l r) → Over s between k below e (near s l r) t (far s l r)
+    over-yet c =
+        record {
+          hung = rw (word-kept 4 (omega arith), ← b-is) beside;
+          max-was = word-kept 3 (omega arith) ∙ rw (← p .slot-is) (p .links .max-word) ∙ ap max-end (join-sides s e l r);
+          shape-was = word-kept 5 (omega arith) ∙ rw (← p .slot-is) (p .links .shape-word) ∙ shape-sides s l r;
+          low = c .low;
+          high = c .high;
+        }
 
     -- and what both calls leave
     pub settled : {after : List ℕ} {top : ℕ} → Left between after top (balanced-join s e t (far s l r))
         → Left ss after top (balanced-join s e t (far s l r))
     settled done = left-then changed done (λ x absent. omega (arith, times-balanced-join x s e t (far s l r)))
+
+    pub resettled : {after : List ℕ} {top : ℕ} {w : Tree}
+        → Settles top between after (levels (join s e (near s l r) (far s l r))) (balanced-join s e t (far s l r))
+        → balanced-join s e t (far s l r) ≡ w
+        → Settles top ss after (levels (node e l r)) w
+    resettled {after} {top} up whole =
+        record {
+          left = subst (λ (u : Tree). Left ss after (top % half) u) whole (settled (up .left));
+          moved-is =
+              up .moved-is
+              ∙ ap (λ (y : Tree). differs (levels y) (levels (balanced-join s e t (far s l r)))) (sym (join-sides s e l r))
+              ∙ ap (λ (y : Tree). differs (levels (node e l r)) (levels y)) whole;
+        }
+
+-- a child of a tree that stands does, too
+pub standing-near : (s : Side) {ss : List ℕ} {k a b : ℕ} {e : Entry} {l r : Tree} → a ≡ near-child s ss k → b ≡ far-child s ss k
+    → Standing ss k (node e l r)
+    → Standing ss a (near s l r)
+standing-near s {e = e} {l} {r} a-is b-is p =
+    record {
+      rooted = near-rooted s (at-node (p .rooted)) a-is b-is;
+      is-balanced = Balanced→balanced (parts s (balanced→Balanced (node e l r) (p .is-balanced)) .1);
+    }
 
 -- the height falls from a node to its child on the side
 pub falls : (s : Side) {ss : List ℕ} {k a : ℕ} {e : Entry} {l r : Tree} → Rooted ss k (node e l r)
@@ -106,11 +161,6 @@ pub falls : (s : Side) {ss : List ℕ} {k a : ℕ} {e : Entry} {l r : Tree} → 
     → levels-at ss a < levels-at ss k
 falls left p q = let whole = at-root p in let part = at-root q in omega arith
 falls right p q = let whole = at-root p in let part = at-root q in omega arith
-
--- what the order test told of a range that was read
-pub order-told : {o p : Ordering} (key : Range) {found at : Range} → order-of o ≡ order key found → found ≡ at → o ≡ p
-    → order key at ≡ order-of p
-order-told key told read is = rw (← read, ← told) (ap order-of is)
 
 -- At the node in slot k the order sends a search for a range to the child a on the side; b is the child on the other.
 pub record Turn (s : Side) (key : Range) (ss : List ℕ) (k a b : ℕ) : Type 0 where
@@ -124,3 +174,15 @@ pub turns : {s : Side} {key : Range} {ss : List ℕ} {k a b : ℕ} {e : Entry} {
     → AtNode ss k e l r
     → order key (e .range) ≡ way s
 turns w at = rw (range-read at) at (w .way-is)
+
+-- an order that is not the same sends a search to its side
+pub way-told : {s : Side} (o : Order) → is-same o ≡ false → s ≡ side-to o → o ≡ way s
+way-told less p q = rw q refl
+way-told same p q = let z : _≡_ {A = ℕ} 0 1 = cc in absurd (omega arith)
+way-told more p q = rw q refl
+
+-- and one that is the same ends it
+pub same-told : (o : Order) → is-same o ≡ true → o ≡ same
+same-told same h = refl
+same-told less h = cc
+same-told more h = cc

@@ -1,22 +1,27 @@
 -- A delete goes down by the order and settles on its way up: what each call is given and leaves. Assumes nothing.
-use Prim.Native.Nat.{ℕ, _+_, _≤_, _<_}
+use Prim.Native.Nat.{ℕ, _+_, _%_, _/_, _≤_, _<_, max}
 use mathlib.Core.List.{List, [], _∷_}
-use mathlib.Core.Option.{some}
-use mathlib.Core.Path.{_≡_, refl, sym, _∙_}
+use mathlib.Core.Option.{none, some}
+use mathlib.Core.Path.{_≡_, refl, sym, ap, _∙_}
 use native.Mathlib.Omega.{arith}
+use Rattle.rules.specs.Limits.{half}
 use Rattle.rules.specs.Range.{Range, range, same, order}
-use Rattle.rules.specs.Tree.{Entry, Tree, leaf, node}
-use Rattle.rules.specs.Balance.{Side, left, right, near, far, balance, balanced-join}
+use Rattle.rules.specs.Tree.{Entry, Tree, leaf, node, levels, max-end}
+use Rattle.rules.specs.Balance.{Side, left, right, near, far, join, balanced-join}
 use Rattle.rules.specs.Edit.{find, delete, close}
 use Rattle.rules.specs.Pool.{times, slots}
-use Rattle.rules.specs.Stored.{slot-word, Rooted, Left}
-use Rattle.node.specs.Node.{levels-at, Hung}
-use Rattle.node.proofs.Trees.{AtNode, at-node}
+use Rattle.rules.specs.Stored.{slot-word, Rooted}
+use Rattle.node.specs.Node.{levels-at}
+use Rattle.node.proofs.Trees.{AtNode, at-node, at-root}
 use Rattle.balance.proofs.Rotated.{near-child, far-child}
-use Rattle.tree.specs.Edits.{Pair, Deletes}
-use Rattle.tree.specs.declared.Deleted.the-variants.{Gone, Absent}
-use Rattle.tree.proofs.Hanging.{way, find-way, not-none, not-node, range-read, near-rooted, far-rooted, parts-once, hung-again, settled, falls, Turn, turns}
-use Rattle.tree.proofs.Deleting.{times-deleted}
+use Rattle.tree.specs.Edits.{Standing, Pair, Deletes}
+use Rattle.tree.specs.declared.Removed.{Removed}
+use Rattle.rules.proofs.Balanced.{balanced→Balanced}
+use Rattle.rules.proofs.Edits.{Shrunk-delete}
+use Rattle.rules.proofs.Counted.{delete-less}
+use Rattle.settle.specs.Settling.{differs, Settles, Losing}
+use Rattle.tree.proofs.Hanging.{parts, way, find-way, not-none, not-node, range-read, near-rooted, parts-once, near-yet, over-yet, resettled, standing-near, falls, Turn, turns}
+use Rattle.tree.proofs.Deleting.{times-deleted, found-range}
 
 -- the way that the order sends a search is the way of delete
 delete-way : (s : Side) (k : Range) (e : Entry) (l r : Tree) → order k (e .range) ≡ way s
@@ -24,84 +29,124 @@ delete-way : (s : Side) (k : Range) (e : Entry) (l r : Tree) → order k (e .ran
 delete-way left k e l r p = rw p refl
 delete-way right k e l r p = rw p refl
 
+-- the rules' tree is left
+goes : {r : Removed} {ss after : List ℕ} {key : Range} {t : Tree} {e : Entry} → 1 ≤ r .slot → find key t ≡ some e
+    → e .slot ≡ r .slot
+    → Settles (r .top) ss after (levels t) (delete key t)
+    → Deletes r ss after key t
+goes {e = e} from-one found is done = record { absent = λ h. absurd (omega arith); gone = λ h. ((e, found, is), done) }
+
+-- nothing changed
+stays : {top : ℕ} {ss after : List ℕ} {key : Range} {t : Tree} → find key t ≡ none → after ≡ ss
+    → Deletes (record { top = top; slot = 0 }) ss after key t
+stays found kept = record { absent = λ h. (found, kept); gone = λ h. absurd (h refl) }
+
 -- in no tree there is nothing
-pub from-none : {ss : List ℕ} {k : ℕ} (key : Range) (t : Tree) → k ≡ 0 → Rooted ss k t → Deletes Absent ss ss key t
-from-none key leaf h p = (refl, refl)
+pub from-none : {ss : List ℕ} {k : ℕ} (key : Range) (t : Tree) → k ≡ 0 → Rooted ss k t
+    → Deletes (record { top = 0; slot = 0 }) ss ss key t
+from-none key leaf h p = stays refl refl
 from-none key (node e l r) h p = absurd (not-node p h)
 
 -- The entry in slot k itself goes, and what closes its place is left.
 module _ {ss : List ℕ} {k a b : ℕ} (a-is : a ≡ near-child left ss k) (b-is : b ≡ far-child left ss k) where
-  pair-below : {e : Entry} {l r : Tree} → Rooted ss k (node e l r) → Pair ss a b l r
+  pub pair-below : {e : Entry} {l r : Tree} → Standing ss k (node e l r) → Pair ss a b l r
   pair-below {e} {l} {r} p =
-      let at = at-node p in
+      let at = at-node (p .rooted) in
       record {
         left = near-rooted left at a-is b-is;
-        right = far-rooted left at a-is b-is;
+        right = standing-near right b-is a-is p;
         once = λ x. omega (arith, at .once x);
       }
 
-  pub closes : (t : Tree) → Rooted ss k t → (k ≡ 0 → ⊥) → (u : Tree) × (v : Tree) × Pair ss a b u v
-  closes leaf p h = absurd (not-none p h)
-  closes (node e l r) p h = (l, r, pair-below p)
+pub is-node : {ss : List ℕ} {k : ℕ} (t : Tree) → Standing ss k t → (k ≡ 0 → ⊥)
+    → (e : Entry) × (l : Tree) × (r : Tree) × Standing ss k (node e l r)
+is-node leaf p h = absurd (not-none (p .rooted) h)
+is-node (node e l r) p h = (e, l, r, p)
 
-  pub goes-itself : (key : Range) {after : List ℕ} {top : ℕ} (t : Tree) → Rooted ss k t → (k ≡ 0 → ⊥)
-      → order key (range (slot-word ss k 0) (slot-word ss k 1)) ≡ same
-      → ((u v : Tree) → Pair ss a b u v → Left ss after top (close u v))
-      → Deletes (Gone top k) ss after key t
-  goes-itself key leaf p h o closed = absurd (not-none p h)
-  goes-itself key (node e l r) p h o closed =
-      let at = at-node p in
-      let equal : order key (e .range) ≡ same = rw (range-read at) at o in
-      ((e, rw equal refl, at .slot-is), rw equal (closed l r (pair-below p)))
+pub goes-itself : (key : Range) {ss after : List ℕ} {k top : ℕ} (t : Tree) → Standing ss k t → (k ≡ 0 → ⊥)
+    → order key (range (slot-word ss k 0) (slot-word ss k 1)) ≡ same
+    → ((e : Entry) (l r : Tree) → Standing ss k (node e l r) → Settles top ss after (levels (node e l r)) (close l r))
+    → Deletes (record { top = top; slot = k }) ss after key t
+goes-itself key leaf p h o closed = absurd (not-none (p .rooted) h)
+goes-itself key (node e l r) p h o closed =
+    let at = at-node (p .rooted) in
+    let equal : order key (e .range) ≡ same = rw (range-read at) at o in
+    goes {e = e} (at .at .from-one) (rw equal refl) (at .slot-is) (rw equal (closed e l r p))
 
 -- Down into the child a on the side, whose other child is b.
 module _ (key : Range) {s : Side} {ss : List ℕ} {k a b : ℕ} (w : Turn s key ss k a b) where
-  pub looks-below : (t : Tree) → Rooted ss k t → (levels-at ss a < levels-at ss k) × ((u : Tree) × Rooted ss a u)
-  looks-below leaf p = absurd (not-none p (w .there))
-  looks-below (node e l r) p =
-      let child = near-rooted s (at-node p) (w .near-is) (w .far-is) in
-      (falls s p child, (near s l r, child))
+  below-stands : {e : Entry} {l r : Tree} → Standing ss k (node e l r) → Standing ss a (near s l r)
+  below-stands p = standing-near s (w .near-is) (w .far-is) p
 
-  pub absent-below : {between : List ℕ} (t : Tree) → Rooted ss k t
-      → ((u : Tree) → Rooted ss a u → Deletes Absent ss between key u)
-      → Deletes Absent ss between key t
-  absent-below leaf p below = absurd (not-none p (w .there))
-  absent-below (node e l r) p below =
-      let at = at-node p in
-      let looked = below (near s l r) (near-rooted s at (w .near-is) (w .far-is)) in
-      (sym (find-way s key e l r (turns w at)) ∙ looked .0, looked .1)
+  pub looks-below : (t : Tree) → Standing ss k t → (levels-at ss a < levels-at ss k) × ((u : Tree) × Standing ss a u)
+  looks-below leaf p = absurd (not-none (p .rooted) (w .there))
+  looks-below (node e l r) p =
+      let child = below-stands p in
+      (falls s (p .rooted) (child .rooted), (near s l r, child))
+
+  pub absent-below : {between : List ℕ} {below : Removed} (t : Tree) → Standing ss k t → below .slot ≡ 0
+      → ((u : Tree) → Standing ss a u → Deletes below ss between key u)
+      → Deletes (record { top = 0; slot = 0 }) ss between key t
+  absent-below leaf p is done = absurd (not-none (p .rooted) (w .there))
+  absent-below (node e l r) p is done =
+      let looked = done (near s l r) (below-stands p) .absent is in
+      stays (sym (find-way s key e l r (turns w (at-node (p .rooted)))) ∙ looked .0) (looked .1)
 
   apart-gone : {e f : Entry} {l r : Tree} → AtNode ss k e l r → find key (near s l r) ≡ some f
       → (x : ℕ) → times x (e .slot ∷ []) + (times x (slots (delete key (near s l r))) + times x (slots (far s l r))) ≤ 1
   apart-gone {l = l} {r} at found x =
       omega (arith, times-deleted x key (near s l r) found, parts-once s at (w .near-is) (w .far-is) x)
 
-  module _ {between : List ℕ} {below slot : ℕ} where
-    pub hangs-gone : (t : Tree) → Rooted ss k t
-        → ((u : Tree) → Rooted ss a u → Deletes (Gone below slot) ss between key u)
-        → (e : Entry) × (u : Tree) × (v : Tree) × Hung between k (near s below b) (far s below b) e u v
-    hangs-gone leaf p done = absurd (not-none p (w .there))
-    hangs-gone (node e l r) p done =
-        let at = at-node p in
-        let went = done (near s l r) (near-rooted s at (w .near-is) (w .far-is)) in (
-          e,
-          near s (delete key (near s l r)) (far s l r),
-          far s (delete key (near s l r)) (far s l r),
-          hung-again s at (w .near-is) (w .far-is) (went .1) (apart-gone at (went .0 .1)),
+  module _ {between : List ℕ} {below : Removed} (answered : below .slot ≡ 0 → ⊥)
+      (done : (u : Tree) → Standing ss a u → Deletes below ss between key u) where
+    went : {e : Entry} {l r : Tree} → Standing ss k (node e l r)
+        → ((f : Entry) × (find key (near s l r) ≡ some f) × (f .slot ≡ below .slot)) × Settles (below .top) ss between (levels (near s l r)) (delete key (near s l r))
+    went {l = l} {r} p = done (near s l r) (below-stands p) .gone answered
+
+    -- the child has one entry less
+    loses : {e : Entry} {l r : Tree} → Standing ss k (node e l r)
+        → Losing s between k (below .top % half) (key .end) e (near s l r) (delete key (near s l r)) (far s l r)
+    loses {e} {l} {r} p =
+        let at = at-node (p .rooted) in
+        let told = went p in
+        let sides = parts s (balanced→Balanced (node e l r) (p .is-balanced)) in
+        let sinks = Shrunk-delete key (sides .1) in
+        let one = delete-less key (near s l r) (told .0 .1) in
+        let ends : key .end ≡ told .0 .0 .range .end = ap (λ (x : Range). x .end) (found-range key (near s l r) (told .0 .1)) in
+        record {
+          over = over-yet s at (w .near-is) (w .far-is) (told .1 .left) (apart-gone at (told .0 .1)) (sides .0);
+          size-is = one .size-is;
+          max-is = one .max-is ∙ ap (λ (x : ℕ). max x (max-end (delete key (near s l r)))) (sym ends);
+          least = let least = sinks .least in omega arith;
+          most = let most = sinks .most in omega arith;
+        }
+
+    pub hangs-gone : (t : Tree) → Standing ss k t
+        → (a < half) × (a ≡ near-child s between k) × ((e : Entry) × (u : Tree) × (v : Tree) × (y : Tree) × Losing s between k (below .top % half) (key .end) e u v y × (below .top / half ≡ differs (levels u) (levels v)))
+    hangs-gone leaf p = absurd (not-none (p .rooted) (w .there))
+    hangs-gone (node e l r) p =
+        let at = at-node (p .rooted) in
+        let told = went p in (
+          (let small = at-root (below-stands p .rooted) .small in omega arith),
+          near-yet s at (w .near-is) (w .far-is) (told .1 .left) (apart-gone at (told .0 .1)),
+          (e, near s l r, delete key (near s l r), far s l r, loses p, told .1 .moved-is),
         )
 
-    pub gone-below : {after : List ℕ} {top : ℕ} (t : Tree) → Rooted ss k t
-        → ((u : Tree) → Rooted ss a u → Deletes (Gone below slot) ss between key u)
-        → ((e : Entry) (u v : Tree) → Hung between k (near s below b) (far s below b) e u v → Left between after top (balance e u v))
-        → Deletes (Gone top slot) ss after key t
-    gone-below leaf p done balanced = absurd (not-none p (w .there))
-    gone-below (node e l r) p done balanced =
-        let at = at-node p in
-        let went = done (near s l r) (near-rooted s at (w .near-is) (w .far-is)) in
-        let apart = apart-gone at (went .0 .1) in (
-          (went .0 .0, sym (find-way s key e l r (turns w at)) ∙ went .0 .1, went .0 .2),
-          rw (← delete-way s key e l r (turns w at))
-              (settled s at (w .near-is) (w .far-is) (went .1) apart
-              (balanced e (near s (delete key (near s l r)) (far s l r)) (far s (delete key (near s l r)) (far s l r))
-              (hung-again s at (w .near-is) (w .far-is) (went .1) apart))),
-        )
+    pub gone-below : {after : List ℕ} {top : ℕ} (t : Tree) → Standing ss k t
+        → ((e : Entry) (u v y : Tree) → Losing s between k (below .top % half) (key .end) e u v y → below .top / half ≡ differs (levels u) (levels v)
+        → Settles top between after (levels (join s e u y)) (balanced-join s e v y))
+        → Deletes (record { top = top; slot = below .slot }) ss after key t
+    gone-below leaf p shrinks = absurd (not-none (p .rooted) (w .there))
+    gone-below (node e l r) p shrinks =
+        let at = at-node (p .rooted) in
+        let told = went p in
+        let found = sym (find-way s key e l r (turns w at)) ∙ told .0 .1 in
+        record {
+          absent = λ h. absurd (answered h);
+          gone = λ h. (
+            (told .0 .0, found, told .0 .2),
+            resettled s at (w .near-is) (w .far-is) (told .1 .left) (apart-gone at (told .0 .1))
+                (shrinks e (near s l r) (delete key (near s l r)) (far s l r) (loses p) (told .1 .moved-is))
+                (delete-way s key e l r (turns w at)),
+          );
+        }

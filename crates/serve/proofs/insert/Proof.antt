@@ -51,42 +51,43 @@ insert-slot-requires c κs =
     let there = header-there (p .1) in
     (omega arith, (p .0 .tree, inserting-first (p .0) (p .1) (c .before .before .before .if1 .left)))
 
-enum-known-top : tie.Need-enum-known-top
-enum-known-top c = search needs
-
-claim-requires : tie.Need-claim-requires
-claim-requires c κs =
-    let p = c .before .before .before .before .before .before .before .before .before .before .before .before .before .before .pre in
-    let put = c .before .before .before .before .before .before .insert-slot in
-    claimable (put .last .0) (p .0) (p .1) (put .ensures .0) (put .kept .0)
-
-enum-told : tie.Need-enum-told
-enum-told c = search needs
-
 same-length-3 : tie.Need-same-length-3
 same-length-3 c = search needs
 
 returns-3 : tie.Need-returns-3
 returns-3 c p h =
-    let called = c .before .before .before .before .before .before .before .before .before in
+    let called = c .before .before .before in
     let put = called .insert-slot in
     let start = called .before .before .before .before .before .before .before .before in
-    answers-claimed (put .last .0) p (range-of (start .args .key)) (start .args .value) h (called .before .before .before .before .if1 .left) (put .ensures .0)
-    (rw (c .before .before .before .before .before .top .given .1) at (put .ensures .1))
-    (put .kept .0)
-    (called .before .before .next-free .ensures)
-    (c .before .before .claim .ensures)
+    answers-kept p (range-of (start .args .key)) (start .args .value) h (called .before .before .before .before .if1 .left) (put .ensures .0)
+    (put .ensures .1)
+    (c .if3 .taken)
+
+low-requires : tie.Need-low-requires
+low-requires c κs = search needs
+
+claim-requires : tie.Need-claim-requires
+claim-requires c κs =
+    let called = c .before .before .before .before .before in
+    let p = called .before .before .before .before .before .before .before .before .pre in
+    let put = called .insert-slot in
+    claimable (put .last .0) (p .0) (p .1) (put .ensures .0) (put .kept .0)
 
 same-length-4 : tie.Need-same-length-4
 same-length-4 c = search needs
 
 returns-4 : tie.Need-returns-4
 returns-4 c p h =
-    let called = c .before .before .before .before in
+    let called = c .before .before .before .before .before .before .before .before in
     let put = called .insert-slot in
     let start = called .before .before .before .before .before .before .before .before in
-    answers-kept p (range-of (start .args .key)) (start .args .value) h (called .before .before .before .before .if1 .left) (put .ensures .0)
-    (rw (c .enum-told .given .1) at (put .ensures .1))
+    answers-claimed (put .last .0) p (range-of (start .args .key)) (start .args .value) h (called .before .before .before .before .if1 .left) (put .ensures .0)
+    (put .ensures .1)
+    (c .before .before .before .before .before .if3 .left)
+    (c .before .before .before .low .ensures)
+    (put .kept .0)
+    (called .before .before .next-free .ensures)
+    (c .before .before .claim .ensures)
 
 pub insert-spec : {M : Type 1} → statement M
 insert-spec =
@@ -101,10 +102,9 @@ insert-spec =
     returns-2
     next-free-requires
     insert-slot-requires
-    enum-known-top
-    claim-requires
-    enum-told
     same-length-3
     returns-3
+    low-requires
+    claim-requires
     same-length-4
     returns-4)

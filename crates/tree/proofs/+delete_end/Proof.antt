@@ -1,6 +1,8 @@
--- `delete_end` takes the outermost entry on the side off. The measure is the stored height. Assumes nothing.
+-- `delete_end` leaves the tree without its outermost entry, and answers that entry's slot. The measure is the stored
+-- height. Assumes nothing.
 use Prim.Native.Nat.{ℕ, _<_}
-use mathlib.Core.Path.{_≡_}
+use native.Mathlib.Omega.{arith}
+use mathlib.Core.Path.{_≡_, refl}
 use borrow.Author.Needs.{needs}
 use borrow.Fn.Kinds.{In}
 use borrow.Fn.PlainCycle.{Measures, is, falls, and}
@@ -10,13 +12,15 @@ use Rattle.balance.specs.Sides.{side-of}
 use Rattle.balance.proofs.Sides.{far-from-other}
 use Rattle.balance.proofs.Rotated.{near-child, far-child}
 use Rattle.balance.proofs.Mended.{root-within}
-use Rattle.tree.proofs.Shedding.{sheds-last, goes-out, hangs-shed, sheds-below}
+use Rattle.tree.proofs.Shedding.{far-small, sheds-last, goes-out, end-there, hangs-shed, sheds-below}
 use Rattle.tree.proofs.delete_end.Reads as delete-end
 use Rattle.tree.proofs.delete_end.Kinds as delete-end-kinds
 use Rattle.tree.proofs.+delete_end.Lts-delete_end as delete-end-lts
 use Rattle.balance.proofs.child.Reads as child-reads
 use Rattle.balance.proofs.opposite.Reads as opposite-reads
-use Rattle.balance.proofs.rebalance.Reads as rebalance-reads
+use Rattle.settle.proofs.shrunk.Reads as shrunk-reads
+use Rattle.node.proofs.pack.Reads as pack-reads
+use Rattle.node.proofs.word.Reads as word-reads
 use Rattle.tree.proofs.+delete_end.{statement}
 use Rattle.tree.proofs.+delete_end.Tie.{close}
 
@@ -36,66 +40,85 @@ calls t = (
   child-reads.Learnt,
   opposite-reads.Asked,
   opposite-reads.Learnt,
+  pack-reads.Asked,
+  pack-reads.Learnt,
   delete-end-below t,
   delete-end.Post,
-  rebalance-reads.Asked,
-  rebalance-reads.Learnt,
+  word-reads.Asked,
+  word-reads.Learnt,
+  shrunk-reads.Asked,
+  shrunk-reads.Learnt,
 )
 
 module _ (t : ℕ) where
   child-requires : delete-end-lts.Need-child-requires (calls t) (delete-end-at t) delete-end.Post
-  child-requires c κs = let p = c .before .before .pre .1 in root-within (p .0) (p .1) (p .2)
+  child-requires c κs = let p = c .before .before .pre .1 in root-within (p .0) (p .1 .rooted) (p .2)
+
+  -- where the child on the side has been read: from which start, on which side, and what it is
+  abbrev Read : Type 0
+  Read = delete-end-lts.After-child (calls t) (delete-end-at t) delete-end.Post
+
+  abbrev start : Read → delete-end-lts.Start (calls t) (delete-end-at t) delete-end.Post
+  start d = d .before .before .before
+
+  abbrev side : Read → Side
+  side d = side-of (start d .args .side)
+
+  near-is : (d : Read) → d .child .result ≡ near-child (side d) (start d .args .slots .now) (start d .args .k)
+  near-is d = d .child .ensures
 
   opposite-requires : delete-end-lts.Need-opposite-requires (calls t) (delete-end-at t) delete-end.Post
   opposite-requires c κs = search needs
 
   child-requires-2 : delete-end-lts.Need-child-requires-2 (calls t) (delete-end-at t) delete-end.Post
-  child-requires-2 c κs = let p = c .before .before .before .before .before .pre .1 in root-within (p .0) (p .1) (p .2)
+  child-requires-2 c κs = let p = c .before .before .before .before .before .before .pre .1 in root-within (p .0) (p .1 .rooted) (p .2)
 
-  -- where both children have been read: from which start, on which side, and what they are
-  abbrev Read : Type 0
-  Read = delete-end-lts.After-child2 (calls t) (delete-end-at t) delete-end.Post
+  far-is : (c : delete-end-lts.After-child2 (calls t) (delete-end-at t) delete-end.Post)
+      → let d = c .before .before .before .before in c .child2 .result ≡ far-child (side d) (start d .args .slots .now) (start d .args .k)
+  far-is c = far-from-other (side (c .before .before .before .before)) _ _ (c .before .opposite .ensures) (c .child2 .ensures)
 
-  abbrev start : Read → delete-end-lts.Start (calls t) (delete-end-at t) delete-end.Post
-  start d = d .before .before .before .before .before .before
-
-  abbrev side : Read → Side
-  side d = side-of (start d .args .side)
-
-  near-is : (d : Read) → d .before .before .before .child .result ≡ near-child (side d) (start d .args .slots .now) (start d .args .k)
-  near-is d = d .before .before .before .child .ensures
-
-  far-is : (d : Read) → d .child2 .result ≡ far-child (side d) (start d .args .slots .now) (start d .args .k)
-  far-is d = far-from-other (side d) _ _ (d .before .opposite .ensures) (d .child2 .ensures)
+  pack-requires : delete-end-lts.Need-pack-requires (calls t) (delete-end-at t) delete-end.Post
+  pack-requires c κs =
+      let d = c .before .before .before .before in
+      let p = start d .pre .1 in
+      (far-small (side d) (near-is d) (far-is c) (p .0) (p .1 .rooted) (p .2), omega arith)
 
   same-length : delete-end-lts.Need-same-length (calls t) (delete-end-at t) delete-end.Post
   same-length c = search needs
 
   returns : delete-end-lts.Need-returns (calls t) (delete-end-at t) delete-end.Post
-  returns c u p tall = let d = c .before in sheds-last (side d) (near-is d) (far-is d) u p tall (c .if1 .taken)
+  returns c u p tall =
+      let read = c .before in
+      let d = read .before .before .before .before in
+      sheds-last (side d) (near-is d) (far-is read) u p tall (read .before .before .before .if1 .taken) (c .pack .ensures)
 
   delete-end-requires : delete-end-lts.Need-delete-end-requires (calls t) (delete-end-at t) delete-end.Post
   delete-end-requires c κs =
       let d = c .before .before in
       let p = start d .pre in
-      let out = goes-out (side d) (near-is d) (far-is d) (p .1 .0) (p .1 .1) (p .1 .2) (c .before .if1 .left) in
+      let out = goes-out (side d) (near-is d) refl (p .1 .0) (p .1 .1) (p .1 .2) (c .before .if1 .left) in
       (rw (← p .0) (out .0), out .1)
 
-  rebalance-requires : delete-end-lts.Need-rebalance-requires (calls t) (delete-end-at t) delete-end.Post
-  rebalance-requires c κs =
+  word-requires : delete-end-lts.Need-word-requires (calls t) (delete-end-at t) delete-end.Post
+  word-requires c κs =
       let d = c .before .before .before .before .before .before in
       let p = start d .pre .1 in
-      hangs-shed (side d) (near-is d) (far-is d) (p .0) (p .1) (p .2) (c .before .before .before .before .before .if1 .left)
-      (c .before .before .before .delete-end .ensures)
+      (end-there (side d) (near-is d) refl (c .before .before .before .before .before .if1 .left) (c .before .before .before .delete-end .ensures) (p .0) (p .1) (p .2), omega arith)
+
+  shrunk-requires : delete-end-lts.Need-shrunk-requires (calls t) (delete-end-at t) delete-end.Post
+  shrunk-requires c κs =
+      let d = c .before .before .before .before .before .before .before .before in
+      let p = start d .pre .1 in
+      hangs-shed (side d) (near-is d) refl (c .before .before .before .before .before .before .before .if1 .left) (c .before .before .before .before .before .delete-end .ensures) (c .before .word .ensures) (p .0) (p .1) (p .2)
 
   same-length-2 : delete-end-lts.Need-same-length-2 (calls t) (delete-end-at t) delete-end.Post
   same-length-2 c = search needs
 
   returns-2 : delete-end-lts.Need-returns-2 (calls t) (delete-end-at t) delete-end.Post
   returns-2 c u p tall =
-      let d = c .before .before .before .before .before .before .before .before .before in
-      sheds-below (side d) (near-is d) (far-is d) u p tall (c .before .before .before .before .before .before .before .before .if1 .left) (c .before .before .before .before .before .before .delete-end .ensures)
-      (c .before .before .rebalance .ensures)
+      let d = c .before .before .before .before .before .before .before .before .before .before .before in
+      sheds-below (side d) (near-is d) refl (c .before .before .before .before .before .before .before .before .before .before .if1 .left) (c .before .before .before .before .before .before .before .before .delete-end .ensures) (c .before .before .before .before .word .ensures) u p tall
+      (c .before .before .shrunk .ensures)
 
 pub +delete-end-spec : {M : Type 1} → statement M
 +delete-end-spec =
@@ -105,9 +128,11 @@ pub +delete-end-spec : {M : Type 1} → statement M
     (child-requires t)
     (opposite-requires t)
     (child-requires-2 t)
+    (pack-requires t)
     (same-length t)
     (returns t)
     (delete-end-requires t)
-    (rebalance-requires t)
+    (word-requires t)
+    (shrunk-requires t)
     (same-length-2 t)
     (returns-2 t))

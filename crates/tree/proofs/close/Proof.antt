@@ -14,20 +14,25 @@ returns-2 c t u p = close-left t u p (c .before .if1 .left) (c .if2 .taken)
 delete-end-requires : tie.Need-delete-end-requires
 delete-end-requires c κs =
     let p = c .before .before .before .before .pre in
-    (p .1, p .2 .right, tall-there (p .1) (p .2 .right) (c .before .if2 .left))
+    (p .1, p .2 .right, tall-there (p .1) (p .2 .right .rooted) (c .before .if2 .left))
+
+low-requires : tie.Need-low-requires
+low-requires c κs = search needs
 
 balance-requires : tie.Need-balance-requires
 balance-requires c κs =
-    let p = c .before .before .before .before .before .before .before .before .pre in
-    close-hangs (p .0) (p .1) (p .2) (c .before .before .before .before .before .before .if1 .left) (c .before .before .before .before .before .if2 .left) (c .before .before .before .delete-end .ensures)
+    let p = c .before .before .before .before .before .before .before .before .before .pre in
+    rw (c .low .ensures)
+    (close-hangs (p .0) (p .1) (p .2) (c .before .before .before .before .before .before .before .if1 .left) (c .before .before .before .before .before .before .if2 .left) (c .before .before .before .before .delete-end .ensures))
 
 same-length : tie.Need-same-length
 same-length c = search needs
 
 returns-3 : tie.Need-returns-3
 returns-3 c t u p =
-    close-both t u p (c .before .before .before .before .before .before .before .before .before .if1 .left) (c .before .before .before .before .before .before .before .before .if2 .left) (c .before .before .before .before .before .before .delete-end .ensures)
-    (c .before .before .balance .ensures)
+    close-both t u p (c .before .before .before .before .before .before .before .before .before .before .if1 .left) (c .before .before .before .before .before .before .before .before .before .if2 .left) (c .before .before .before .before .before .before .before .delete-end .ensures)
+    (rw (c .before .before .before .low .ensures) at (c .before .before .balance .ensures))
 
 pub close-spec : {M : Type 1} → statement M
-close-spec = tie.close (tie.spec returns returns-2 delete-end-requires balance-requires same-length returns-3)
+close-spec =
+    tie.close (tie.spec returns returns-2 delete-end-requires low-requires balance-requires same-length returns-3)

@@ -1,0 +1,4 @@
+-- The laws that the proofs of the functions cite.
+pub mod Settled
+pub mod Gained
+pub mod Lost

@@ -10,7 +10,7 @@ use borrow.Author.Tests.{lt-ltb, le-ltb}
 use Rattle.rules.specs.Limits.{slot-words, half}
 use Rattle.rules.specs.Tree.{Entry, Tree, levels, size}
 use Rattle.rules.specs.Balance.{Side, left, right, near, far, join, mend, balance, balanced-join}
-use Rattle.rules.specs.Stored.{slot-word, Left}
+use Rattle.rules.specs.Stored.{slot-word, Within, Left}
 use Rattle.rules.proofs.Tests.{lt-cases}
 use Rattle.rules.proofs.Balanced.{levels-join}
 use Rattle.rules.proofs.Counted.{more-beside}
@@ -139,15 +139,6 @@ module _ (s : Side) {ss : List ℕ} {k a b end : ℕ} {e : Entry} {t u v : Tree}
     levels-joined : levels (balanced-join s e u v) ≡ levels (join s e t v) + more
     levels-joined = rw (joined, levels-join s e u v, levels-join s e t v, still .height) (omega arith)
 
-  -- where the child kept its slot and its height, the links are what they were
-  pub in-place : {after : List ℕ} → a ≡ near-child s ss k → levels u ≡ levels t
-      → after ≡ with-links ss k (max (slot-word ss k 3) end) (slot-word ss k 4) (slot-word ss k 5 + half + 0)
-      → Settles k ss after (levels (join s e t v)) (balanced-join s e u v)
-  in-place a-is level wrote =
-      let still = still-level (g .over .low) (g .over .high) level in
-      settles-same (rw (wrote, links-read s a b (slot-word ss k 4) a-is b-is) (left-joined still))
-      (let up = levels-joined still in omega arith)
-
   module _ {after : List ℕ} where
     pub same-up : growth (levels-at ss k) (levels-at ss a) (levels-at ss b) ≡ Same
         → after ≡ with-links ss k (max (slot-word ss k 3) end) (near s a b + half * far s a b) (slot-word ss k 5 + half + 0)
@@ -164,3 +155,16 @@ module _ (s : Side) {ss : List ℕ} {k a b end : ℕ} {e : Entry} {t u v : Tree}
         let stood = when-higher (stand told) in
         let still = still-higher (g .least) (g .most) (stood .0) (stood .1) in
         settles-moved (rw wrote (left-joined still)) (λ z. let up = levels-joined still in omega arith) is
+
+-- Where the child kept its slot and its height, the links are what they were.
+module _ {s : Side} {ss : List ℕ} {k end : ℕ} {e : Entry} {t u v : Tree} (g : Gaining s ss k (near-child s ss k) end e t u v) where
+  pub counts : Within ss k × (0 < half) × (slot-word ss k 5 + half + 0 < half * half)
+  counts = (fits s (g .over) refl .at, omega arith, room s g refl 0 (omega arith))
+
+  pub counted : {after : List ℕ} → levels u ≡ levels t
+      → after ≡ with-links ss k (max (slot-word ss k 3) end) (slot-word ss k 4) (slot-word ss k 5 + half + 0)
+      → Settles k ss after (levels (join s e t v)) (balanced-join s e u v)
+  counted level wrote =
+      let still = still-level (g .over .low) (g .over .high) level in
+      settles-same (rw (wrote, links-read s _ _ (slot-word ss k 4) refl refl) (left-joined s g refl still))
+      (let up = levels-joined s g refl still in omega arith)

@@ -10,7 +10,7 @@ use borrow.Author.Tests.{lt-ltb, le-ltb}
 use Rattle.rules.specs.Limits.{slot-words, half}
 use Rattle.rules.specs.Tree.{Entry, Tree, levels, size}
 use Rattle.rules.specs.Balance.{Side, left, right, other, near, far, join, mend, balance, balanced-join}
-use Rattle.rules.specs.Stored.{slot-word, Left}
+use Rattle.rules.specs.Stored.{slot-word, Within, Left}
 use Rattle.rules.proofs.Tests.{lt-cases}
 use Rattle.rules.proofs.Balanced.{levels-join}
 use Rattle.rules.proofs.Counted.{more-beside}
@@ -162,33 +162,6 @@ module _ (s : Side) {ss : List ℕ} {k a b end : ℕ} {e : Entry} {t u v : Tree}
     levels-joined : levels (balanced-join s e u v) + less ≡ levels (join s e t v)
     levels-joined = let h = still .height in rw (joined, levels-join s e u v, levels-join s e t v) (omega arith)
 
-  -- where the child kept its slot and its height, the links are what they were
-  module _ (a-is : a ≡ near-child s ss k) where
-    pub inside-links : (slot-words * (slot-word ss k 4 % half) ≤ length ss) × (slot-words * (slot-word ss k 4 / half) ≤ length ss)
-    inside-links =
-        let ok = fits s (g .over) b-is in
-        let x = slot-word ss k 4 % half in
-        let y = slot-word ss k 4 / half in (
-          rw (near-back s a b x y a-is b-is) (inside-near s a b (length ss) (ok .left-in) (ok .right-in)),
-          rw (far-back s a b x y a-is b-is) (inside-far s a b (length ss) (ok .left-in) (ok .right-in)),
-        )
-
-    pub in-place : {after : List ℕ} → levels u ≡ levels t
-        → after ≡ with-links ss k (max-without ss k (slot-word ss k 4 % half) (slot-word ss k 4 / half) end) (slot-word ss k 4) (slot-word ss k 5 - half - 0)
-        → Settles k ss after (levels (join s e t v)) (balanced-join s e u v)
-    in-place {after} level wrote =
-        let still = still-level (g .over .low) (g .over .high) level in
-        let up = levels-joined still in
-        settles-same (rw (wrote ∙ same) (left-joined still)) (omega arith)
-      where
-        same : with-links ss k (max-without ss k (slot-word ss k 4 % half) (slot-word ss k 4 / half) end) (slot-word ss k 4) (slot-word ss k 5 - half - 0)
-            ≡ with-links ss k (max-without ss k (near s a b) (far s a b) end) (near s a b + half * far s a b) (slot-word ss k 5 - half - 0)
-        same =
-            let x = slot-word ss k 4 % half in
-            let y = slot-word ss k 4 / half in
-            rw (← near-back s a b x y a-is b-is, ← far-back s a b x y a-is b-is)
-            (ap (λ (w : ℕ). with-links ss k (max-without ss k x y end) w (slot-word ss k 5 - half - 0)) (apart (slot-word ss k 4)))
-
   module _ {after : List ℕ} where
     pub same-down : loss (levels-at ss k) (levels-at ss a) (levels-at ss b) ≡ Same
         → after ≡ with-links ss k (max-without ss k (near s a b) (far s a b) end) (near s a b + half * far s a b) (slot-word ss k 5 - half - 0)
@@ -206,3 +179,34 @@ module _ (s : Side) {ss : List ℕ} {k a b end : ℕ} {e : Entry} {t u v : Tree}
         let stood = when-lower (stand told) in
         let still = still-lower (g .over .low) (g .most) (g .least) (stood .0) (stood .1) in
         settles-moved (rw wrote (left-joined still)) (λ z. let up = levels-joined still in omega arith) is
+
+-- Where the child kept its slot and its height, the links are what they were.
+module _ {s : Side} {ss : List ℕ} {k end : ℕ} {e : Entry} {t u v : Tree} (g : Losing s ss k (near-child s ss k) end e t u v) where
+  pub discounts : Within ss k × (slot-words * (slot-word ss k 4 % half) ≤ length ss) × (slot-words * (slot-word ss k 4 / half) ≤ length ss) × (0 < half) × (half + 0 ≤ slot-word ss k 5)
+  discounts =
+      let ok = fits s (g .over) refl in
+      let most = room s g refl in
+      let x = slot-word ss k 4 % half in
+      let y = slot-word ss k 4 / half in (
+        ok .at,
+        rw (near-back s _ _ x y refl refl) (inside-near s _ _ (length ss) (ok .left-in) (ok .right-in)),
+        rw (far-back s _ _ x y refl refl) (inside-far s _ _ (length ss) (ok .left-in) (ok .right-in)),
+        omega arith,
+        omega arith,
+      )
+
+  pub discounted : {after : List ℕ} → levels u ≡ levels t
+      → after ≡ with-links ss k (max-without ss k (slot-word ss k 4 % half) (slot-word ss k 4 / half) end) (slot-word ss k 4) (slot-word ss k 5 - half - 0)
+      → Settles k ss after (levels (join s e t v)) (balanced-join s e u v)
+  discounted level wrote =
+      let still = still-level (g .over .low) (g .over .high) level in
+      let up = levels-joined s g refl still in
+      settles-same (rw (wrote ∙ same) (left-joined s g refl still)) (omega arith)
+    where
+      same : with-links ss k (max-without ss k (slot-word ss k 4 % half) (slot-word ss k 4 / half) end) (slot-word ss k 4) (slot-word ss k 5 - half - 0)
+          ≡ with-links ss k (max-without ss k (near s (near-child s ss k) (far-child s ss k)) (far s (near-child s ss k) (far-child s ss k)) end) (near s (near-child s ss k) (far-child s ss k) + half * far s (near-child s ss k) (far-child s ss k)) (slot-word ss k 5 - half - 0)
+      same =
+          let x = slot-word ss k 4 % half in
+          let y = slot-word ss k 4 / half in
+          rw (← near-back s (near-child s ss k) (far-child s ss k) x y refl refl, ← far-back s (near-child s ss k) (far-child s ss k) x y refl refl)
+          (ap (λ (w : ℕ). with-links ss k (max-without ss k x y end) w (slot-word ss k 5 - half - 0)) (apart (slot-word ss k 4)))

@@ -1,11 +1,12 @@
 // After an edit below: a node whose child has one entry more, or one less, is settled. Where the child kept its slot and its
-// height, the node only counts the entry and looks at its end. An answer has two halves: the slot of the root, and 1 where
-// its height is another one than before.
+// height, the node only counts the entry and looks at its end (`count`, `discount`). An answer has two halves: the slot of
+// the root, and 1 where its height is another one than before.
 use balance::Side;
 ghost use mathlib.Core.Path.{_≡_};
 ghost use Prim.Native.Nat.{_+_, _-_, _*_, _%_, _/_, _≤_, _<_, max};
 ghost use lib.ListN.{length};
 ghost use Rattle.rules.specs.Tree.{Entry, Tree, levels};
+ghost use Rattle.rules.specs.Balance as sides;
 ghost use Rattle.rules.specs.Balance.{join, mend, balanced-join, near, far};
 ghost use Rattle.rules.specs.Limits.{half};
 ghost use Rattle.rules.specs.Stored.{slot-word, Within};
@@ -81,7 +82,7 @@ fn gain(slots: &mut [u64], side: Side, k: u64, a: u64, b: u64, more: u64, end: u
 
 // Slot k after an insert on the side, where `a` is now its child, with one more entry, which has that end. Answers the
 // slot that is then on top, and whether it is higher than k was.
-fn raised(slots: &mut [u64], side: Side, k: u64, a: u64, end: u64) -> u64
+pub fn raised(slots: &mut [u64], side: Side, k: u64, a: u64, end: u64) -> u64
     requires { ⌜ ((e : Entry) × (t : Tree) × (u : Tree) × (v : Tree) × Gaining (side-of side) (now slots) k a end e t u v) ⌝ }
     ensures { λ r. ⌜ ((e : Entry) (t u v : Tree) → Gaining (side-of side) (now (slots .entry)) k a end e t u v → Settles r (now (slots .entry)) (now (slots .exit)) (levels (join (side-of side) e t v)) (balanced-join (side-of side) e u v)) ⌝ }
 {
@@ -99,18 +100,12 @@ fn raised(slots: &mut [u64], side: Side, k: u64, a: u64, end: u64) -> u64
     }
 }
 
-// Slot k after an insert on the side, with one more entry below it, which has that end: its child was `was` and is now
-// `below`, as an answer has it. Answers the slot that is then on top, and whether it is higher than k was.
-pub fn grown(slots: &mut [u64], side: Side, k: u64, was: u64, below: u64, end: u64) -> u64
-    requires { ⌜ (was < half) × (was ≡ near (side-of side) (slot-word (now slots) k 4 % half) (slot-word (now slots) k 4 / half)) × ((e : Entry) × (t : Tree) × (u : Tree) × (v : Tree) × Gaining (side-of side) (now slots) k (below % half) end e t u v × (below / half ≡ differs (levels t) (levels u))) ⌝ }
-    ensures { λ r. ⌜ ((e : Entry) (t u v : Tree) → Gaining (side-of side) (now (slots .entry)) k (below % half) end e t u v → below / half ≡ differs (levels t) (levels u) → Settles r (now (slots .entry)) (now (slots .exit)) (levels (join (side-of side) e t v)) (balanced-join (side-of side) e u v)) ⌝ }
+// Slot k after an insert below a child that kept its slot and its height: one more entry, which has that end.
+pub fn count(slots: &mut [u64], k: u64, end: u64)
+    requires { ⌜ ((s : sides.Side) × (e : Entry) × (t : Tree) × (u : Tree) × (v : Tree) × Gaining s (now slots) k (near s (slot-word (now slots) k 4 % half) (slot-word (now slots) k 4 / half)) end e t u v × (levels u ≡ levels t)) ⌝ }
+    ensures { λ _. ⌜ ((s : sides.Side) (e : Entry) (t u v : Tree) → Gaining s (now (slots .entry)) k (near s (slot-word (now (slots .entry)) k 4 % half) (slot-word (now (slots .entry)) k 4 / half)) end e t u v → levels u ≡ levels t → Settles k (now (slots .entry)) (now (slots .exit)) (levels (join s e t v)) (balanced-join s e u v)) ⌝ }
 {
-    if below == was {
-        node::gain(slots, k, node::word(slots, k, 4), 0, end);
-        k
-    } else {
-        raised(slots, side, k, node::low(below), end)
-    }
+    node::gain(slots, k, node::word(slots, k, 4), 0, end);
 }
 
 // How a node stands when its child on a side has one entry less: as high as before, one lower, or with that child too
@@ -148,7 +143,7 @@ fn lose(slots: &mut [u64], side: Side, k: u64, a: u64, b: u64, less: u64, end: u
 
 // Slot k after a removal on the side, where `a` is now its child, with one entry less, which had that end. Answers the
 // slot that is then on top, and whether it is lower than k was.
-fn lowered(slots: &mut [u64], side: Side, k: u64, a: u64, end: u64) -> u64
+pub fn lowered(slots: &mut [u64], side: Side, k: u64, a: u64, end: u64) -> u64
     requires { ⌜ ((e : Entry) × (t : Tree) × (u : Tree) × (v : Tree) × Losing (side-of side) (now slots) k a end e t u v) ⌝ }
     ensures { λ r. ⌜ ((e : Entry) (t u v : Tree) → Losing (side-of side) (now (slots .entry)) k a end e t u v → Settles r (now (slots .entry)) (now (slots .exit)) (levels (join (side-of side) e t v)) (balanced-join (side-of side) e u v)) ⌝ }
 {
@@ -167,16 +162,10 @@ fn lowered(slots: &mut [u64], side: Side, k: u64, a: u64, end: u64) -> u64
     }
 }
 
-// Slot k after a removal on the side, with one entry less below it, which had that end: its child was `was` and is now
-// `rest`, as an answer has it. Answers the slot that is then on top, and whether it is lower than k was.
-pub fn shrunk(slots: &mut [u64], side: Side, k: u64, was: u64, rest: u64, end: u64) -> u64
-    requires { ⌜ (was < half) × (was ≡ near (side-of side) (slot-word (now slots) k 4 % half) (slot-word (now slots) k 4 / half)) × ((e : Entry) × (t : Tree) × (u : Tree) × (v : Tree) × Losing (side-of side) (now slots) k (rest % half) end e t u v × (rest / half ≡ differs (levels t) (levels u))) ⌝ }
-    ensures { λ r. ⌜ ((e : Entry) (t u v : Tree) → Losing (side-of side) (now (slots .entry)) k (rest % half) end e t u v → rest / half ≡ differs (levels t) (levels u) → Settles r (now (slots .entry)) (now (slots .exit)) (levels (join (side-of side) e t v)) (balanced-join (side-of side) e u v)) ⌝ }
+// Slot k after a removal below a child that kept its slot and its height: one entry less, which had that end.
+pub fn discount(slots: &mut [u64], k: u64, end: u64)
+    requires { ⌜ ((s : sides.Side) × (e : Entry) × (t : Tree) × (u : Tree) × (v : Tree) × Losing s (now slots) k (near s (slot-word (now slots) k 4 % half) (slot-word (now slots) k 4 / half)) end e t u v × (levels u ≡ levels t)) ⌝ }
+    ensures { λ _. ⌜ ((s : sides.Side) (e : Entry) (t u v : Tree) → Losing s (now (slots .entry)) k (near s (slot-word (now (slots .entry)) k 4 % half) (slot-word (now (slots .entry)) k 4 / half)) end e t u v → levels u ≡ levels t → Settles k (now (slots .entry)) (now (slots .exit)) (levels (join s e t v)) (balanced-join s e u v)) ⌝ }
 {
-    if rest == was {
-        node::lose(slots, k, node::word(slots, k, 4), 0, end);
-        k
-    } else {
-        lowered(slots, side, k, node::low(rest), end)
-    }
+    node::lose(slots, k, node::word(slots, k, 4), 0, end);
 }

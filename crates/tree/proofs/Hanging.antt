@@ -1,6 +1,6 @@
 -- A child was changed by a call: it is hung in its place again and balanced. For either side, and for every edit.
 -- Assumes nothing.
-use Prim.Native.Nat.{ℕ, suc, _+_, _*_, _%_, _≤_, _<_, max}
+use Prim.Native.Nat.{ℕ, suc, _+_, _*_, _%_, _/_, _≤_, _<_, max}
 use mathlib.Core.List.{List, [], _∷_, map}
 use mathlib.Core.Path.{_≡_, refl, sym, ap, subst, _∙_}
 use native.Mathlib.Omega.{arith}
@@ -20,6 +20,7 @@ use Rattle.node.proofs.Trees.{AtNode, at-node, at-root, bears-kept, rooted-kept
 use Rattle.balance.proofs.Sides.{times-sides, rooted-near, rooted-far}
 use Rattle.balance.proofs.Rotated.{near-child, far-child}
 use Rattle.settle.specs.Settling.{differs, Settles, Over}
+use Rattle.settle.proofs.Settled.{slot-kept, level-kept}
 use Rattle.rules.proofs.Balanced.{Close, Balanced, both, Close-sides, of-near, balanced→Balanced, Balanced→balanced}
 use Rattle.tree.specs.Edits.{side-to, Standing}
 
@@ -113,8 +114,19 @@ module _ (s : Side) {ss : List ℕ} {k a b : ℕ} {e : Entry} {l r : Tree} (p : 
         rw (← p .slot-is)
         (changed .kept .same (e .slot) i (p .bears .at .from-one) small (omega (arith, apart (e .slot), times-one (e .slot))))
 
-    pub near-yet : a ≡ near-child s between k
+    near-yet : a ≡ near-child s between k
     near-yet = rw (word-kept 4 (omega arith)) a-is
+
+    -- an answer that is the old child's slot: it is in its place, and as high as it was
+    module _ (n : ℕ) (low : below ≡ n % half) (kept : n ≡ a) where
+      small : a < half
+      small = let fits = at-root near-rooted .small in omega arith
+
+      pub in-place : below ≡ near-child s between k
+      in-place = low ∙ slot-kept small kept ∙ near-yet
+
+      pub as-high : n / half ≡ differs (levels (near s l r)) (levels t) → levels t ≡ levels (near s l r)
+      as-high moved = level-kept small kept (levels (near s l r)) (levels t) moved
 
     -- so the node stands over the changed child
     pub over-yet : Close (near s l r) (far s l r) → Over s between k below e (near s l r) t (far s l r)

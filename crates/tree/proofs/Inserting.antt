@@ -1,5 +1,5 @@
 -- An insert in slots: what each of its calls is given, and what they leave. Assumes nothing.
-use Prim.Native.Nat.{ℕ, _+_, _*_, _%_, _/_, _≤_, _<_}
+use Prim.Native.Nat.{ℕ, _+_, _*_, _%_, _≤_, _<_}
 use mathlib.Core.List.{List, [], _∷_}
 use mathlib.Core.Option.{none, some}
 use mathlib.Core.Path.{_≡_, refl, sym, _∙_}
@@ -21,12 +21,12 @@ use Rattle.node.proofs.Trees.{at-node, at-root}
 use Rattle.settle.proofs.Settled.{settles-moved}
 use Rattle.balance.proofs.Sides.{times-sides}
 use Rattle.tree.specs.Edits.{Inserting, Inserts}
-use Rattle.settle.specs.Settling.{differs, Settles, Gaining}
+use Rattle.settle.specs.Settling.{Settles, Gaining}
 use Rattle.rules.proofs.Balanced.{balanced→Balanced}
 use Rattle.rules.proofs.Edits.{Grown-insert}
 use Rattle.rules.proofs.Counted.{found-not-none, insert-more}
 use Rattle.balance.proofs.Rotated.{near-child}
-use Rattle.tree.proofs.Hanging.{parts, way, find-way, times-balance, not-none, not-node, range-read, parts-once, near-yet, over-yet, resettled, standing-near, falls, Turn, turns}
+use Rattle.tree.proofs.Hanging.{parts, way, find-way, times-balance, not-none, not-node, range-read, parts-once, in-place, as-high, over-yet, resettled, standing-near, falls, Turn, turns}
 
 -- an insert of a new range adds its slot, whatever the order of the tree
 added-along : (y : ℕ) (x : Entry) {t : Tree} → Down (x .range) t → find (x .range) t ≡ none
@@ -164,26 +164,52 @@ module _ (x : Entry) {s : Side} {ss : List ℕ} {k a b : ℕ} (w : Turn s (x .ra
           most = let most = rise .most in omega arith;
         }
 
-    -- what is settled after the insert below
-    pub hangs : (t : Tree) → Inserting ss k (x .slot) t
-        → (a < half) × (a ≡ near-child s between k) × ((e : Entry) × (u : Tree) × (v : Tree) × (y : Tree) × Gaining s between k (below % half) (x .range .end) e u v y × (below / half ≡ differs (levels u) (levels v)))
-    hangs leaf p = absurd (not-none (p .standing .rooted) (w .there))
-    hangs (node e l r) p =
-        let told = put-below p in (
-          (let small = at-root (inserting-near p .standing .rooted) .small in omega arith),
-          near-yet s (at-node (p .standing .rooted)) (w .near-is) (w .far-is) (told .1 .left) (apart-below p (told .0)),
-          (e, near s l r, insert x (near s l r), far s l r, gains p, told .1 .moved-is),
-        )
-
-    -- and what all leave
-    pub inserted-below : {after : List ℕ} {r : ℕ} (t : Tree) → Inserting ss k (x .slot) t
-        → ((e : Entry) (u v y : Tree) → Gaining s between k (below % half) (x .range .end) e u v y → below / half ≡ differs (levels u) (levels v)
-        → Settles r between after (levels (join s e u y)) (balanced-join s e v y))
-        → Inserts r ss after x t
-    inserted-below leaf p grown = absurd (not-none (p .standing .rooted) (w .there))
-    inserted-below (node e l r) p grown =
+    -- what is left where the node over the child is settled
+    lifts : {after : List ℕ} {top : ℕ} {e : Entry} {l r : Tree} → Inserting ss k (x .slot) (node e l r)
+        → Settles top between after (levels (join s e (near s l r) (far s l r))) (balanced-join s e (insert x (near s l r)) (far s l r))
+        → Inserts top ss after x (node e l r)
+    lifts {e = e} {l} {r} p up =
         let at = at-node (p .standing .rooted) in
         let told = put-below p in
-        let up = grown e (near s l r) (insert x (near s l r)) (far s l r) (gains p) (told .1 .moved-is) in
         puts (node e l r) (sym (find-way s (x .range) e l r (turns w at)) ∙ told .0)
         (resettled s at (w .near-is) (w .far-is) (told .1 .left) (apart-below p (told .0)) up (insert-way s x e l r (turns w at)))
+
+    -- the child is another one, or as high as another: the node is raised
+    pub hangs : (t : Tree) → Inserting ss k (x .slot) t
+        → (e : Entry) × (u : Tree) × (v : Tree) × (y : Tree) × Gaining s between k (below % half) (x .range .end) e u v y
+    hangs leaf p = absurd (not-none (p .standing .rooted) (w .there))
+    hangs (node e l r) p = (e, near s l r, insert x (near s l r), far s l r, gains p)
+
+    pub raised-above : {after : List ℕ} {top : ℕ} (t : Tree) → Inserting ss k (x .slot) t
+        → ((e : Entry) (u v y : Tree) → Gaining s between k (below % half) (x .range .end) e u v y
+        → Settles top between after (levels (join s e u y)) (balanced-join s e v y))
+        → Inserts top ss after x t
+    raised-above leaf p raised = absurd (not-none (p .standing .rooted) (w .there))
+    raised-above (node e l r) p raised = lifts p (raised e (near s l r) (insert x (near s l r)) (far s l r) (gains p))
+
+    -- the child kept its slot and its height: the entry is counted
+    module _ (kept : below ≡ a) where
+      gains-kept : {e : Entry} {l r : Tree} → Inserting ss k (x .slot) (node e l r)
+          → Gaining s between k (near-child s between k) (x .range .end) e (near s l r) (insert x (near s l r)) (far s l r)
+          × (levels (insert x (near s l r)) ≡ levels (near s l r))
+      gains-kept p =
+          let at = at-node (p .standing .rooted) in
+          let told = put-below p in
+          let apart = apart-below p (told .0) in (
+            rw (in-place s at (w .near-is) (w .far-is) (told .1 .left) apart below refl kept) at (gains p),
+            as-high s at (w .near-is) (w .far-is) (told .1 .left) apart below refl kept (told .1 .moved-is),
+          )
+
+      pub counts-above : (t : Tree) → Inserting ss k (x .slot) t
+          → (z : Side) × (e : Entry) × (u : Tree) × (v : Tree) × (y : Tree) × Gaining z between k (near-child z between k) (x .range .end) e u v y × (levels v ≡ levels u)
+      counts-above leaf p = absurd (not-none (p .standing .rooted) (w .there))
+      counts-above (node e l r) p =
+          let g = gains-kept p in (s, e, near s l r, insert x (near s l r), far s l r, g .0, g .1)
+
+      pub counted-above : {after : List ℕ} (t : Tree) → Inserting ss k (x .slot) t
+          → ((z : Side) (e : Entry) (u v y : Tree) → Gaining z between k (near-child z between k) (x .range .end) e u v y → levels v ≡ levels u
+          → Settles k between after (levels (join z e u y)) (balanced-join z e v y))
+          → Inserts k ss after x t
+      counted-above leaf p counted = absurd (not-none (p .standing .rooted) (w .there))
+      counted-above (node e l r) p counted =
+          let g = gains-kept p in lifts p (counted s e (near s l r) (insert x (near s l r)) (far s l r) (g .0) (g .1))

@@ -1,5 +1,5 @@
 -- A delete goes down by the order and settles on its way up: what each call is given and leaves. Assumes nothing.
-use Prim.Native.Nat.{ℕ, _+_, _%_, _/_, _≤_, _<_, max}
+use Prim.Native.Nat.{ℕ, _+_, _%_, _≤_, _<_, max}
 use mathlib.Core.List.{List, [], _∷_}
 use mathlib.Core.Option.{none, some}
 use mathlib.Core.Path.{_≡_, refl, sym, ap, _∙_}
@@ -12,15 +12,15 @@ use Rattle.rules.specs.Edit.{find, delete, close}
 use Rattle.rules.specs.Pool.{times, slots}
 use Rattle.rules.specs.Stored.{slot-word, Rooted}
 use Rattle.node.specs.Node.{levels-at}
-use Rattle.node.proofs.Trees.{AtNode, at-node, at-root}
+use Rattle.node.proofs.Trees.{AtNode, at-node}
 use Rattle.balance.proofs.Rotated.{near-child, far-child}
 use Rattle.tree.specs.Edits.{Standing, Pair, Deletes}
 use Rattle.tree.specs.declared.Removed.{Removed}
 use Rattle.rules.proofs.Balanced.{balanced→Balanced}
 use Rattle.rules.proofs.Edits.{Shrunk-delete}
 use Rattle.rules.proofs.Counted.{delete-less}
-use Rattle.settle.specs.Settling.{differs, Settles, Losing}
-use Rattle.tree.proofs.Hanging.{parts, way, find-way, not-none, not-node, range-read, near-rooted, parts-once, near-yet, over-yet, resettled, standing-near, falls, Turn, turns}
+use Rattle.settle.specs.Settling.{Settles, Losing}
+use Rattle.tree.proofs.Hanging.{parts, way, find-way, not-none, not-node, range-read, near-rooted, parts-once, in-place, as-high, over-yet, resettled, standing-near, falls, Turn, turns}
 use Rattle.tree.proofs.Deleting.{times-deleted, found-range}
 
 -- the way that the order sends a search is the way of delete
@@ -121,23 +121,11 @@ module _ (key : Range) {s : Side} {ss : List ℕ} {k a b : ℕ} (w : Turn s key 
           most = let most = sinks .most in omega arith;
         }
 
-    pub hangs-gone : (t : Tree) → Standing ss k t
-        → (a < half) × (a ≡ near-child s between k) × ((e : Entry) × (u : Tree) × (v : Tree) × (y : Tree) × Losing s between k (below .top % half) (key .end) e u v y × (below .top / half ≡ differs (levels u) (levels v)))
-    hangs-gone leaf p = absurd (not-none (p .rooted) (w .there))
-    hangs-gone (node e l r) p =
-        let at = at-node (p .rooted) in
-        let told = went p in (
-          (let small = at-root (below-stands p .rooted) .small in omega arith),
-          near-yet s at (w .near-is) (w .far-is) (told .1 .left) (apart-gone at (told .0 .1)),
-          (e, near s l r, delete key (near s l r), far s l r, loses p, told .1 .moved-is),
-        )
-
-    pub gone-below : {after : List ℕ} {top : ℕ} (t : Tree) → Standing ss k t
-        → ((e : Entry) (u v y : Tree) → Losing s between k (below .top % half) (key .end) e u v y → below .top / half ≡ differs (levels u) (levels v)
-        → Settles top between after (levels (join s e u y)) (balanced-join s e v y))
-        → Deletes (record { top = top; slot = below .slot }) ss after key t
-    gone-below leaf p shrinks = absurd (not-none (p .rooted) (w .there))
-    gone-below (node e l r) p shrinks =
+    -- what is left where the node over the child is settled
+    lifts : {after : List ℕ} {top : ℕ} {e : Entry} {l r : Tree} → Standing ss k (node e l r)
+        → Settles top between after (levels (join s e (near s l r) (far s l r))) (balanced-join s e (delete key (near s l r)) (far s l r))
+        → Deletes (record { top = top; slot = below .slot }) ss after key (node e l r)
+    lifts {e = e} {l} {r} p up =
         let at = at-node (p .rooted) in
         let told = went p in
         let found = sym (find-way s key e l r (turns w at)) ∙ told .0 .1 in
@@ -145,8 +133,47 @@ module _ (key : Range) {s : Side} {ss : List ℕ} {k a b : ℕ} (w : Turn s key 
           absent = λ h. absurd (answered h);
           gone = λ h. (
             (told .0 .0, found, told .0 .2),
-            resettled s at (w .near-is) (w .far-is) (told .1 .left) (apart-gone at (told .0 .1))
-                (shrinks e (near s l r) (delete key (near s l r)) (far s l r) (loses p) (told .1 .moved-is))
-                (delete-way s key e l r (turns w at)),
+            resettled s at (w .near-is) (w .far-is) (told .1 .left) (apart-gone at (told .0 .1)) up (delete-way s key e l r (turns w at)),
           );
         }
+
+    -- the child is another one, or as high as another: the node is lowered
+    pub hangs-gone : (t : Tree) → Standing ss k t
+        → (e : Entry) × (u : Tree) × (v : Tree) × (y : Tree) × Losing s between k (below .top % half) (key .end) e u v y
+    hangs-gone leaf p = absurd (not-none (p .rooted) (w .there))
+    hangs-gone (node e l r) p = (e, near s l r, delete key (near s l r), far s l r, loses p)
+
+    pub lowered-above : {after : List ℕ} {top : ℕ} (t : Tree) → Standing ss k t
+        → ((e : Entry) (u v y : Tree) → Losing s between k (below .top % half) (key .end) e u v y
+        → Settles top between after (levels (join s e u y)) (balanced-join s e v y))
+        → Deletes (record { top = top; slot = below .slot }) ss after key t
+    lowered-above leaf p lowered = absurd (not-none (p .rooted) (w .there))
+    lowered-above (node e l r) p lowered =
+        lifts p (lowered e (near s l r) (delete key (near s l r)) (far s l r) (loses p))
+
+    -- the child kept its slot and its height: the entry is taken off the count
+    module _ (kept : below .top ≡ a) where
+      loses-kept : {e : Entry} {l r : Tree} → Standing ss k (node e l r)
+          → Losing s between k (near-child s between k) (key .end) e (near s l r) (delete key (near s l r)) (far s l r)
+          × (levels (delete key (near s l r)) ≡ levels (near s l r))
+      loses-kept p =
+          let at = at-node (p .rooted) in
+          let told = went p in
+          let apart = apart-gone at (told .0 .1) in (
+            rw (in-place s at (w .near-is) (w .far-is) (told .1 .left) apart (below .top) refl kept) at (loses p),
+            as-high s at (w .near-is) (w .far-is) (told .1 .left) apart (below .top) refl kept (told .1 .moved-is),
+          )
+
+      pub discounts-above : (t : Tree) → Standing ss k t
+          → (z : Side) × (e : Entry) × (u : Tree) × (v : Tree) × (y : Tree) × Losing z between k (near-child z between k) (key .end) e u v y × (levels v ≡ levels u)
+      discounts-above leaf p = absurd (not-none (p .rooted) (w .there))
+      discounts-above (node e l r) p =
+          let g = loses-kept p in (s, e, near s l r, delete key (near s l r), far s l r, g .0, g .1)
+
+      pub discounted-above : {after : List ℕ} (t : Tree) → Standing ss k t
+          → ((z : Side) (e : Entry) (u v y : Tree) → Losing z between k (near-child z between k) (key .end) e u v y → levels v ≡ levels u
+          → Settles k between after (levels (join z e u y)) (balanced-join z e v y))
+          → Deletes (record { top = k; slot = below .slot }) ss after key t
+      discounted-above leaf p discounted = absurd (not-none (p .rooted) (w .there))
+      discounted-above (node e l r) p discounted =
+          let g = loses-kept p in lifts p (discounted s e (near s l r) (delete key (near s l r)) (far s l r) (g .0) (g .1))

@@ -1,5 +1,5 @@
 -- The removal of the outermost entry on a side, in slots: what its calls are given, and what they leave. Assumes nothing.
-use Prim.Native.Nat.{ℕ, _+_, _*_, _%_, _/_, _≤_, _<_}
+use Prim.Native.Nat.{ℕ, _+_, _*_, _%_, _≤_, _<_}
 use mathlib.Core.List.{List, [], _∷_}
 use mathlib.Core.Path.{_≡_, refl, sym, ap, subst, _∙_}
 use native.Mathlib.Omega.{arith}
@@ -16,12 +16,12 @@ use Rattle.rules.proofs.Counted.{OneMore, shed-less}
 use Rattle.rules.proofs.Searching.{times-shed}
 use Rattle.node.specs.Node.{levels-at}
 use Rattle.node.proofs.Trees.{at-node, at-root, kept-refl, within-kept}
-use Rattle.settle.specs.Settling.{differs, Settles, Losing}
+use Rattle.settle.specs.Settling.{Settles, Losing}
 use Rattle.settle.proofs.Settled.{settles-moved}
 use Rattle.balance.proofs.Rotated.{near-child, far-child}
 use Rattle.tree.specs.Edits.{end-slot, Standing, Sheds}
 use Rattle.tree.specs.declared.Removed.{Removed}
-use Rattle.tree.proofs.Hanging.{parts, not-none, near-rooted, far-rooted, parts-once, near-yet, over-yet, resettled, standing-near, falls}
+use Rattle.tree.proofs.Hanging.{parts, not-none, near-rooted, far-rooted, parts-once, in-place, as-high, over-yet, resettled, standing-near, falls}
 
 -- a slot that is not none holds a tree of some levels, and none holds none
 pub tall-there : {ss : List ℕ} {k : ℕ} (t : Tree) → Rooted ss k t → (k ≡ 0 → ⊥) → 1 ≤ levels t
@@ -156,27 +156,55 @@ module _ (s : Side) {ss : List ℕ} {k a b : ℕ} (a-is : a ≡ near-child s ss 
             most = let most = sinks .most in omega arith;
           }
 
-      pub hangs-shed : (t : Tree) → Standing ss k t → 1 ≤ levels t
-          → (a < half) × (a ≡ near-child s between k) × ((e : Entry) × (u : Tree) × (v : Tree) × (y : Tree) × Losing s between k (below .top % half) end e u v y × (below .top / half ≡ differs (levels u) (levels v)))
-      hangs-shed leaf p tall = absurd (omega arith)
-      hangs-shed (node e l r) p tall = (
-        (let small = at-root (child-stands p .rooted) .small in omega arith),
-        near-yet s (at-node (p .rooted)) a-is b-is (shorter p .settles .left) (apart-out (p .rooted) (tall-near p)),
-        (e, near s l r, shed s (near s l r), far s l r, loses p, shorter p .settles .moved-is),
-      )
-
-      pub sheds-below : {after : List ℕ} {top : ℕ} (t : Tree) → Standing ss k t → 1 ≤ levels t
-          → ((e : Entry) (u v y : Tree) → Losing s between k (below .top % half) end e u v y → below .top / half ≡ differs (levels u) (levels v)
-          → Settles top between after (levels (join s e u y)) (balanced-join s e v y))
-          → Sheds s (record { top = top; slot = below .slot }) ss after t
-      sheds-below leaf p tall shrinks = absurd (omega arith)
-      sheds-below (node e l r) p tall shrinks =
+      -- what is left where the node over the child is settled
+      lifts : {after : List ℕ} {top : ℕ} {e : Entry} {l r : Tree} → Standing ss k (node e l r)
+          → Settles top between after (levels (join s e (near s l r) (far s l r))) (balanced-join s e (shed s (near s l r)) (far s l r))
+          → Sheds s (record { top = top; slot = below .slot }) ss after (node e l r)
+      lifts {e = e} {l} {r} p up =
           let less = shorter p in
           let whole = shed-more s e l r (tall-near p) in
           record {
-            settles =
-                resettled s (at-node (p .rooted)) a-is b-is (less .settles .left) (apart-out (p .rooted) (tall-near p))
-                (shrinks e (near s l r) (shed s (near s l r)) (far s l r) (loses p) (less .settles .moved-is))
-                (whole .0);
+            settles = resettled s (at-node (p .rooted)) a-is b-is (less .settles .left) (apart-out (p .rooted) (tall-near p)) up (whole .0);
             slot-is = less .slot-is ∙ whole .1;
           }
+
+      -- the child is another one, or as high as another: the node is lowered
+      pub hangs-shed : (t : Tree) → Standing ss k t → 1 ≤ levels t
+          → (e : Entry) × (u : Tree) × (v : Tree) × (y : Tree) × Losing s between k (below .top % half) end e u v y
+      hangs-shed leaf p tall = absurd (omega arith)
+      hangs-shed (node e l r) p tall = (e, near s l r, shed s (near s l r), far s l r, loses p)
+
+      pub lowered-above : {after : List ℕ} {top : ℕ} (t : Tree) → Standing ss k t → 1 ≤ levels t
+          → ((e : Entry) (u v y : Tree) → Losing s between k (below .top % half) end e u v y
+          → Settles top between after (levels (join s e u y)) (balanced-join s e v y))
+          → Sheds s (record { top = top; slot = below .slot }) ss after t
+      lowered-above leaf p tall lowered = absurd (omega arith)
+      lowered-above (node e l r) p tall lowered =
+          lifts p (lowered e (near s l r) (shed s (near s l r)) (far s l r) (loses p))
+
+      -- the child kept its slot and its height: the entry is taken off the count
+      module _ (kept : below .top ≡ a) where
+        loses-kept : {e : Entry} {l r : Tree} → Standing ss k (node e l r)
+            → Losing s between k (near-child s between k) end e (near s l r) (shed s (near s l r)) (far s l r)
+            × (levels (shed s (near s l r)) ≡ levels (near s l r))
+        loses-kept p =
+            let at = at-node (p .rooted) in
+            let less = shorter p .settles in
+            let apart = apart-out (p .rooted) (tall-near p) in (
+              rw (in-place s at a-is b-is (less .left) apart (below .top) refl kept) at (loses p),
+              as-high s at a-is b-is (less .left) apart (below .top) refl kept (less .moved-is),
+            )
+
+        pub discounts-above : (t : Tree) → Standing ss k t → 1 ≤ levels t
+            → (z : Side) × (e : Entry) × (u : Tree) × (v : Tree) × (y : Tree) × Losing z between k (near-child z between k) end e u v y × (levels v ≡ levels u)
+        discounts-above leaf p tall = absurd (omega arith)
+        discounts-above (node e l r) p tall =
+            let g = loses-kept p in (s, e, near s l r, shed s (near s l r), far s l r, g .0, g .1)
+
+        pub discounted-above : {after : List ℕ} (t : Tree) → Standing ss k t → 1 ≤ levels t
+            → ((z : Side) (e : Entry) (u v y : Tree) → Losing z between k (near-child z between k) end e u v y → levels v ≡ levels u
+            → Settles k between after (levels (join z e u y)) (balanced-join z e v y))
+            → Sheds s (record { top = k; slot = below .slot }) ss after t
+        discounted-above leaf p tall discounted = absurd (omega arith)
+        discounted-above (node e l r) p tall discounted =
+            let g = loses-kept p in lifts p (discounted s e (near s l r) (shed s (near s l r)) (far s l r) (g .0) (g .1))

@@ -79,7 +79,11 @@ pub fn insert(slots: &mut [u64], k: u64, start: u64, end: u64, value: u64, new: 
     if below == 0 {
         return 0;
     }
-    settle::grown(slots, side, k, child, below, end)
+    if below == child {
+        settle::count(slots, k, end);
+        return k;
+    }
+    settle::raised(slots, side, k, node::low(below), end)
 }
 
 // Takes the outermost entry on the side off the tree rooted in slot k: `delete_min` for the left side, `delete_max` for
@@ -91,13 +95,19 @@ pub fn delete_end(slots: &mut [u64], side: Side, k: u64) -> Removed
     let near = balance::child(slots, side, k);
     if near == 0 {
         let far = balance::child(slots, balance::opposite(side), k);
-        let top = node::pack(far, 1);
-        return Removed { top, slot: k };
+        return Removed {
+            top: node::pack(far, 1),
+            slot: k,
+        };
     }
     let below = delete_end(slots, side, near);
     let slot = below.slot;
     let end = node::word(slots, slot, 1);
-    let top = settle::shrunk(slots, side, k, near, below.top, end);
+    if below.top == near {
+        settle::discount(slots, k, end);
+        return Removed { top: k, slot };
+    }
+    let top = settle::lowered(slots, side, k, node::low(below.top), end);
     Removed { top, slot }
 }
 
@@ -149,6 +159,10 @@ pub fn delete(slots: &mut [u64], k: u64, start: u64, end: u64) -> Removed
     if slot == 0 {
         return Removed { top: 0, slot: 0 };
     }
-    let top = settle::shrunk(slots, side, k, child, below.top, end);
+    if below.top == child {
+        settle::discount(slots, k, end);
+        return Removed { top: k, slot };
+    }
+    let top = settle::lowered(slots, side, k, node::low(below.top), end);
     Removed { top, slot }
 }

@@ -11,12 +11,14 @@ use Rattle.node.specs.Node.{levels-at}
 use Rattle.balance.specs.Sides.{side-of}
 use Rattle.balance.proofs.Rotated.{far-child}
 use Rattle.tree.proofs.Hanging.{at-slot, same-told, way-told, Turn}
-use Rattle.tree.proofs.Removing.{from-none, is-node, goes-itself, looks-below, absent-below, hangs-gone, gone-below}
+use Rattle.tree.proofs.Removing.{from-none, is-node, goes-itself, looks-below, absent-below, hangs-gone, lowered-above, discounts-above, discounted-above}
 use Rattle.tree.proofs.delete.Reads as delete
 use Rattle.tree.proofs.delete.Kinds as delete-kinds
 use Rattle.tree.proofs.+delete.Lts-delete as delete-lts
 use Rattle.balance.proofs.child.Reads as child-reads
-use Rattle.settle.proofs.shrunk.Reads as shrunk-reads
+use Rattle.settle.proofs.discount.Reads as discount-reads
+use Rattle.settle.proofs.lowered.Reads as lowered-reads
+use Rattle.node.proofs.low.Reads as low-reads
 use Rattle.tree.proofs.delete_here.Reads as delete-here-reads
 use Rattle.tree.proofs.is_at.Reads as is-at-reads
 use Rattle.tree.proofs.toward.Reads as toward-reads
@@ -45,8 +47,12 @@ calls t = (
   child-reads.Learnt,
   delete-below t,
   delete.Post,
-  shrunk-reads.Asked,
-  shrunk-reads.Learnt,
+  discount-reads.Asked,
+  discount-reads.Learnt,
+  low-reads.Asked,
+  low-reads.Learnt,
+  lowered-reads.Asked,
+  lowered-reads.Learnt,
 )
 
 module _ (t : ℕ) where
@@ -114,20 +120,42 @@ module _ (t : ℕ) where
       let d = c .before .before .before .before .before in
       absent-below (sought d) (turn d) u p (c .if3 .taken) (c .before .before .before .delete .ensures)
 
-  shrunk-requires : delete-lts.Need-shrunk-requires (calls t) (delete-at t) delete.Post
-  shrunk-requires c κs =
-      let d = c .before .before .before .before .before .before in
+  discount-requires : delete-lts.Need-discount-requires (calls t) (delete-at t) delete.Post
+  discount-requires c κs =
+      let i = c .before .before .before .before .before .before in
+      let d = i .before .before in
       let p = start d .pre .1 in
-      hangs-gone (sought d) (turn d) (c .before .if3 .left) (c .before .before .before .before .delete .ensures) (p .0) (p .1)
+      discounts-above (sought d) (turn d) (c .before .before .before .if3 .left) (i .delete .ensures) (c .before .if4 .taken) (p .0) (p .1)
 
   same-length-3 : delete-lts.Need-same-length-3 (calls t) (delete-at t) delete.Post
   same-length-3 c = search needs
 
   returns-4 : delete-lts.Need-returns-4 (calls t) (delete-at t) delete.Post
   returns-4 c u p =
-      let d = c .before .before .before .before .before .before .before .before .before in
-      gone-below (sought d) (turn d) (c .before .before .before .before .if3 .left) (c .before .before .before .before .before .before .before .delete .ensures) u p
-      (c .before .before .shrunk .ensures)
+      let i = c .before .before .before .before .before .before .before .before .before in
+      let d = i .before .before in
+      discounted-above (sought d) (turn d) (c .before .before .before .before .before .before .if3 .left) (i .delete .ensures) (c .before .before .before .before .if4 .taken) u p
+      (c .before .before .discount .ensures)
+
+  low-requires : delete-lts.Need-low-requires (calls t) (delete-at t) delete.Post
+  low-requires c κs = search needs
+
+  lowered-requires : delete-lts.Need-lowered-requires (calls t) (delete-at t) delete.Post
+  lowered-requires c κs =
+      let i = c .before .before .before .before .before .before .before in
+      let d = i .before .before in
+      let p = start d .pre .1 in
+      rw (c .low .ensures) (hangs-gone (sought d) (turn d) (c .before .before .before .before .if3 .left) (i .delete .ensures) (p .0) (p .1))
+
+  same-length-4 : delete-lts.Need-same-length-4 (calls t) (delete-at t) delete.Post
+  same-length-4 c = search needs
+
+  returns-5 : delete-lts.Need-returns-5 (calls t) (delete-at t) delete.Post
+  returns-5 c u p =
+      let i = c .before .before .before .before .before .before .before .before .before .before in
+      let d = i .before .before in
+      lowered-above (sought d) (turn d) (c .before .before .before .before .before .before .before .if3 .left) (i .delete .ensures) u p
+      (rw (c .before .before .before .low .ensures) at (c .before .before .lowered .ensures))
 
 pub +delete-spec : {M : Type 1} → statement M
 +delete-spec =
@@ -144,6 +172,10 @@ pub +delete-spec : {M : Type 1} → statement M
     (delete-requires t)
     (same-length-2 t)
     (returns-3 t)
-    (shrunk-requires t)
+    (discount-requires t)
     (same-length-3 t)
-    (returns-4 t))
+    (returns-4 t)
+    (low-requires t)
+    (lowered-requires t)
+    (same-length-4 t)
+    (returns-5 t))

@@ -12,13 +12,15 @@ use Rattle.balance.specs.Sides.{side-of}
 use Rattle.balance.proofs.Sides.{far-from-other}
 use Rattle.balance.proofs.Rotated.{near-child, far-child}
 use Rattle.balance.proofs.Mended.{root-within}
-use Rattle.tree.proofs.Shedding.{far-small, sheds-last, goes-out, end-there, hangs-shed, sheds-below}
+use Rattle.tree.proofs.Shedding.{far-small, sheds-last, goes-out, end-there, hangs-shed, lowered-above, discounts-above, discounted-above}
 use Rattle.tree.proofs.delete_end.Reads as delete-end
 use Rattle.tree.proofs.delete_end.Kinds as delete-end-kinds
 use Rattle.tree.proofs.+delete_end.Lts-delete_end as delete-end-lts
 use Rattle.balance.proofs.child.Reads as child-reads
 use Rattle.balance.proofs.opposite.Reads as opposite-reads
-use Rattle.settle.proofs.shrunk.Reads as shrunk-reads
+use Rattle.settle.proofs.discount.Reads as discount-reads
+use Rattle.settle.proofs.lowered.Reads as lowered-reads
+use Rattle.node.proofs.low.Reads as low-reads
 use Rattle.node.proofs.pack.Reads as pack-reads
 use Rattle.node.proofs.word.Reads as word-reads
 use Rattle.tree.proofs.+delete_end.{statement}
@@ -46,8 +48,12 @@ calls t = (
   delete-end.Post,
   word-reads.Asked,
   word-reads.Learnt,
-  shrunk-reads.Asked,
-  shrunk-reads.Learnt,
+  discount-reads.Asked,
+  discount-reads.Learnt,
+  low-reads.Asked,
+  low-reads.Learnt,
+  lowered-reads.Asked,
+  lowered-reads.Learnt,
 )
 
 module _ (t : ℕ) where
@@ -105,20 +111,43 @@ module _ (t : ℕ) where
       let p = start d .pre .1 in
       (end-there (side d) (near-is d) refl (c .before .before .before .before .before .if1 .left) (c .before .before .before .delete-end .ensures) (p .0) (p .1) (p .2), omega arith)
 
-  shrunk-requires : delete-end-lts.Need-shrunk-requires (calls t) (delete-end-at t) delete-end.Post
-  shrunk-requires c κs =
-      let d = c .before .before .before .before .before .before .before .before in
+  discount-requires : delete-end-lts.Need-discount-requires (calls t) (delete-end-at t) delete-end.Post
+  discount-requires c κs =
+      let i = c .before .before .before .before .before .before .before in
+      let d = i .before .before .before in
       let p = start d .pre .1 in
-      hangs-shed (side d) (near-is d) refl (c .before .before .before .before .before .before .before .if1 .left) (c .before .before .before .before .before .delete-end .ensures) (c .before .word .ensures) (p .0) (p .1) (p .2)
+      discounts-above (side d) (near-is d) refl (i .before .before .if1 .left) (i .delete-end .ensures) (c .before .before .before .word .ensures) (c .before .if2 .taken) (p .0) (p .1) (p .2)
 
   same-length-2 : delete-end-lts.Need-same-length-2 (calls t) (delete-end-at t) delete-end.Post
   same-length-2 c = search needs
 
   returns-2 : delete-end-lts.Need-returns-2 (calls t) (delete-end-at t) delete-end.Post
   returns-2 c u p tall =
-      let d = c .before .before .before .before .before .before .before .before .before .before .before in
-      sheds-below (side d) (near-is d) refl (c .before .before .before .before .before .before .before .before .before .before .if1 .left) (c .before .before .before .before .before .before .before .before .delete-end .ensures) (c .before .before .before .before .word .ensures) u p tall
-      (c .before .before .shrunk .ensures)
+      let i = c .before .before .before .before .before .before .before .before .before .before in
+      let d = i .before .before .before in
+      discounted-above (side d) (near-is d) refl (i .before .before .if1 .left) (i .delete-end .ensures) (c .before .before .before .before .before .before .word .ensures) (c .before .before .before .before .if2 .taken) u p tall
+      (c .before .before .discount .ensures)
+
+  low-requires : delete-end-lts.Need-low-requires (calls t) (delete-end-at t) delete-end.Post
+  low-requires c κs = search needs
+
+  lowered-requires : delete-end-lts.Need-lowered-requires (calls t) (delete-end-at t) delete-end.Post
+  lowered-requires c κs =
+      let i = c .before .before .before .before .before .before .before .before in
+      let d = i .before .before .before in
+      let p = start d .pre .1 in
+      rw (c .low .ensures)
+      (hangs-shed (side d) (near-is d) refl (i .before .before .if1 .left) (i .delete-end .ensures) (c .before .before .before .before .word .ensures) (p .0) (p .1) (p .2))
+
+  same-length-3 : delete-end-lts.Need-same-length-3 (calls t) (delete-end-at t) delete-end.Post
+  same-length-3 c = search needs
+
+  returns-3 : delete-end-lts.Need-returns-3 (calls t) (delete-end-at t) delete-end.Post
+  returns-3 c u p tall =
+      let i = c .before .before .before .before .before .before .before .before .before .before .before in
+      let d = i .before .before .before in
+      lowered-above (side d) (near-is d) refl (i .before .before .if1 .left) (i .delete-end .ensures) (c .before .before .before .before .before .before .before .word .ensures) u p tall
+      (rw (c .before .before .before .low .ensures) at (c .before .before .lowered .ensures))
 
 pub +delete-end-spec : {M : Type 1} → statement M
 +delete-end-spec =
@@ -133,6 +162,10 @@ pub +delete-end-spec : {M : Type 1} → statement M
     (returns t)
     (delete-end-requires t)
     (word-requires t)
-    (shrunk-requires t)
+    (discount-requires t)
     (same-length-2 t)
-    (returns-2 t))
+    (returns-2 t)
+    (low-requires t)
+    (lowered-requires t)
+    (same-length-3 t)
+    (returns-3 t))

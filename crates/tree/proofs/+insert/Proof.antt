@@ -12,12 +12,14 @@ use Rattle.node.specs.Node.{levels-at, entry}
 use Rattle.balance.specs.Sides.{side-of}
 use Rattle.balance.proofs.Rotated.{far-child}
 use Rattle.tree.proofs.Hanging.{at-slot, same-told, way-told, Turn}
-use Rattle.tree.proofs.Inserting.{new-slot, new-small, into-none, into-there, goes-down, hangs, inserted-below, there-below}
+use Rattle.tree.proofs.Inserting.{new-slot, new-small, into-none, into-there, goes-down, there-below, hangs, raised-above, counts-above, counted-above}
 use Rattle.tree.proofs.insert.Reads as insert
 use Rattle.tree.proofs.insert.Kinds as insert-kinds
 use Rattle.tree.proofs.+insert.Lts-insert as insert-lts
 use Rattle.balance.proofs.child.Reads as child-reads
-use Rattle.settle.proofs.grown.Reads as grown-reads
+use Rattle.settle.proofs.count.Reads as count-reads
+use Rattle.settle.proofs.raised.Reads as raised-reads
+use Rattle.node.proofs.low.Reads as low-reads
 use Rattle.node.proofs.new.Reads as new-reads
 use Rattle.node.proofs.pack.Reads as pack-reads
 use Rattle.tree.proofs.is_at.Reads as is-at-reads
@@ -49,8 +51,12 @@ calls t = (
   child-reads.Learnt,
   insert-below t,
   insert.Post,
-  grown-reads.Asked,
-  grown-reads.Learnt,
+  count-reads.Asked,
+  count-reads.Learnt,
+  low-reads.Asked,
+  low-reads.Learnt,
+  raised-reads.Asked,
+  raised-reads.Learnt,
 )
 
 module _ (t : ℕ) where
@@ -127,20 +133,42 @@ module _ (t : ℕ) where
       let d = c .before .before .before .before .before in
       there-below (added d) (turn d) u p (c .if3 .taken) (c .before .before .before .insert .ensures)
 
-  grown-requires : insert-lts.Need-grown-requires (calls t) (insert-at t) insert.Post
-  grown-requires c κs =
-      let d = c .before .before .before .before .before .before in
+  count-requires : insert-lts.Need-count-requires (calls t) (insert-at t) insert.Post
+  count-requires c κs =
+      let i = c .before .before .before .before .before in
+      let d = i .before .before in
       let p = start d .pre .1 in
-      hangs (added d) (turn d) (c .before .if3 .left) (c .before .before .before .before .insert .ensures) (p .0) (p .1)
+      counts-above (added d) (turn d) (c .before .before .if3 .left) (i .insert .ensures) (c .before .if4 .taken) (p .0) (p .1)
 
   same-length-4 : insert-lts.Need-same-length-4 (calls t) (insert-at t) insert.Post
   same-length-4 c = search needs
 
   returns-4 : insert-lts.Need-returns-4 (calls t) (insert-at t) insert.Post
   returns-4 c u p =
-      let d = c .before .before .before .before .before .before .before .before .before in
-      inserted-below (added d) (turn d) (c .before .before .before .before .if3 .left) (c .before .before .before .before .before .before .before .insert .ensures) u p
-      (c .before .before .grown .ensures)
+      let i = c .before .before .before .before .before .before .before .before in
+      let d = i .before .before in
+      counted-above (added d) (turn d) (c .before .before .before .before .before .if3 .left) (i .insert .ensures)
+      (c .before .before .before .before .if4 .taken) u p (c .before .before .count .ensures)
+
+  low-requires : insert-lts.Need-low-requires (calls t) (insert-at t) insert.Post
+  low-requires c κs = search needs
+
+  raised-requires : insert-lts.Need-raised-requires (calls t) (insert-at t) insert.Post
+  raised-requires c κs =
+      let i = c .before .before .before .before .before .before in
+      let d = i .before .before in
+      let p = start d .pre .1 in
+      rw (c .low .ensures) (hangs (added d) (turn d) (c .before .before .before .if3 .left) (i .insert .ensures) (p .0) (p .1))
+
+  same-length-5 : insert-lts.Need-same-length-5 (calls t) (insert-at t) insert.Post
+  same-length-5 c = search needs
+
+  returns-5 : insert-lts.Need-returns-5 (calls t) (insert-at t) insert.Post
+  returns-5 c u p =
+      let i = c .before .before .before .before .before .before .before .before .before in
+      let d = i .before .before in
+      raised-above (added d) (turn d) (c .before .before .before .before .before .before .if3 .left) (i .insert .ensures) u p
+      (rw (c .before .before .before .low .ensures) at (c .before .before .raised .ensures))
 
 pub +insert-spec : {M : Type 1} → statement M
 +insert-spec =
@@ -159,6 +187,10 @@ pub +insert-spec : {M : Type 1} → statement M
     (insert-requires t)
     (same-length-3 t)
     (returns-3 t)
-    (grown-requires t)
+    (count-requires t)
     (same-length-4 t)
-    (returns-4 t))
+    (returns-4 t)
+    (low-requires t)
+    (raised-requires t)
+    (same-length-5 t)
+    (returns-5 t))

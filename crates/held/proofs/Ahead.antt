@@ -17,11 +17,12 @@ use Rattle.rules.specs.Steps.{Pending, with-hit, at-start, Each, each-none, In-
 use Rattle.rules.specs.Entries.{rows-into}
 use Rattle.rules.specs.Stored.{slot-word}
 use Rattle.rules.proofs.Pending.{each-at-start, in-order-down}
-use Rattle.walk.specs.Walk.{Pends, Hit, no-hit, hit-in, Walkable, next}
+use Rattle.walk.specs.Walk.{Stands, Hit, no-hit, hit-in, Walkable, next}
 use Rattle.walk.specs.Inside.{with-hit-row}
 use Rattle.walk.proofs.Lines.{no-room}
 use Rattle.walk.proofs.Listing.{Walks, walk-few}
 use Rattle.walk.proofs.Onward.{each-next, next-over, next-hits}
+use Rattle.walk.proofs.Stack.{none-pending}
 use Rattle.held.specs.declared.Hit.{Hit as Row}
 use Rattle.held.specs.declared.Filling.{Filling}
 use Rattle.held.specs.Held.{first-of}
@@ -41,15 +42,15 @@ start-hits q (node e l r) = append-nil (hits q (node e l r))
 few : {ss : List ℕ} {k : ℕ} {t : Tree} (q : Range) → Walkable ss k t → length (hits q t) ≤ most-slots
 few {ss} {k} {t} q h = walk-few over h
   where
-    none-pends : Pends ss (replicate most-pending 0) 0 []
-    none-pends = record { room = h .rooted .room; long = refl; counted = refl; on-stack = refl; each = each-none }
+    none-stands : Stands ss (replicate most-pending 0) 0 0 []
+    none-stands = record { pends = none-pending (h .rooted .room) refl; top-is = refl }
 
-    over : Walks ss (replicate most-pending 0) 0 q t [] (rows-into (hits q t) []) (length (hits q t))
+    over : Walks ss (replicate most-pending 0) 0 0 q t [] (rows-into (hits q t) []) (length (hits q t))
     over =
         record {
           on = [];
           done = hits q t;
-          pends = none-pends;
+          stands = none-stands;
           in-order = each-none;
           all = append-nil (hits q t);
           counted = refl;
@@ -86,7 +87,7 @@ ahead-start {ss} {stack} {k} {t} {f} q w none-yet s =
       on = next q (at-start t) .pending;
       done = [];
       found = next q (at-start t) .hit;
-      pends = s .pends;
+      stands = s .stands;
       in-order = each-next in-order-down q ordered;
       all = next-hits q ordered ∙ start-hits q t;
       counted = none-yet;
@@ -115,7 +116,7 @@ module _ {ss stack : List ℕ} {q : Range} {t : Tree} {f : Filling} (a : Ahead s
         on = p .pending;
         done = a .done ++ with-hit o [];
         found = p .hit;
-        pends = s .pends;
+        stands = s .stands;
         in-order = each-next in-order-down q (a .in-order);
         all =
             append-assoc (a .done) (with-hit o []) (with-hit (p .hit) (all-hits q (p .pending)))
@@ -154,13 +155,13 @@ no-row (some e) n = no-room n _ _ _ [] (omega arith)
 -- the latest hit is counted, if there is one, and the others are those of the pending trees
 pub rest-start :
     {ss stack : List ℕ} {q : Range} {t : Tree} {f : Filling} → Ahead ss stack q t f
-    → Walks ss stack (f .pending) q t [] [] (cond (f .there) (suc (f .count)) (f .count))
+    → Walks ss stack (f .pending) (f .top) q t [] [] (cond (f .there) (suc (f .count)) (f .count))
 rest-start {q = q} {f = f} a =
     let o = a .found in
     record {
       on = a .on;
       done = a .done ++ with-hit o [];
-      pends = a .pends;
+      stands = a .stands;
       in-order = a .in-order;
       all =
           append-assoc (a .done) (with-hit o []) (all-hits q (a .on))
@@ -188,8 +189,8 @@ rest-hit n m e o h = (e ∙ ap (λ b. cond b (suc n) n) (is-slot h) ∙ one-more
 
 -- no more are counted than there are
 pub counted-few :
-    {ss stack start run : List ℕ} {n count : ℕ} {q : Range} {t : Tree} → length (hits q t) ≤ most-slots
-    → Walks ss stack n q t start run count → count ≤ most-slots
+    {ss stack start run : List ℕ} {n top count : ℕ} {q : Range} {t : Tree} → length (hits q t) ≤ most-slots
+    → Walks ss stack n top q t start run count → count ≤ most-slots
 counted-few {q = q} few w =
     let counted = w .counted in
     omega (arith, ap length (w .all), length-append (w .done) (all-hits q (w .on)))

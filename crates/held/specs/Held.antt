@@ -4,14 +4,14 @@ use mathlib.Core.Option.{Option, none, some}
 use Prim.Native.Nat.{ℕ}
 use Rattle.rules.specs.Tree.{Entry}
 use Rattle.rules.specs.Steps.{Pending, Step}
-use Rattle.walk.specs.Walk.{Pends, Hit}
+use Rattle.walk.specs.Walk.{Stands, Hit}
 use Rattle.held.specs.declared.Stack.{Stack}
 
--- the stack holds the pending trees
+-- the stack holds the pending trees, and says the slot of the latest
 abbrev pub Waiting : List ℕ → Stack → Pending → Type 0
-Waiting ss s p = Pends ss (s .nodes) (s .pending) p
+Waiting ss s p = Stands ss (s .nodes) (s .pending) (s .top) p
 
--- the stack holds the trees pending after the step, and says what the step hit
+-- the stack holds the trees pending after the step, and says the slot of the latest and what the step hit
 pub record Turned (ss : List ℕ) (s : Stack) (after : Step) : Type 0 where
   pub waits : Waiting ss s (after .pending)
   pub hits : Hit ss (s .hit) (after .hit)

@@ -12,7 +12,7 @@ use Rattle.rules.specs.Range.{Range}
 use Rattle.rules.specs.Tree.{Entry, Tree}
 use Rattle.rules.specs.Query.{hits}
 use Rattle.rules.specs.Steps.{Pending, Step, with-hit, Each, In-order, all-hits}
-use Rattle.walk.specs.Walk.{Pends}
+use Rattle.walk.specs.Walk.{Stands}
 use Rattle.held.specs.declared.Hit.{Hit}
 use Rattle.held.specs.declared.Filling.{Filling}
 
@@ -45,9 +45,9 @@ is-hit (some e) = true
 abbrev pub is-written : Option Entry → ℕ → ℕ → Bool
 is-written o count room = is-hit o && ltb count room
 
--- what was found is what the step hit, and the stack holds the nodes pending after it
+-- what was found is what the step hit, and the walk stands at the nodes pending after it
 pub record Sought (ss stack : List ℕ) (f : Filling) (after : Step) : Type 0 where
-  pub pends : Pends ss stack (f .pending) (after .pending)
+  pub stands : Stands ss stack (f .pending) (f .top) (after .pending)
   pub row : f .row ≡ record-of (after .hit)
   pub there : f .there ≡ is-hit (after .hit)
   pub fits : f .fits ≡ is-written (after .hit) (f .count) (f .room)
@@ -58,7 +58,7 @@ pub record Ahead (ss stack : List ℕ) (q : Range) (t : Tree) (f : Filling) : Ty
   pub on : Pending
   pub done : List Entry
   pub found : Option Entry
-  pub pends : Pends ss stack (f .pending) on
+  pub stands : Stands ss stack (f .pending) (f .top) on
   pub in-order : Each In-order on
   pub all : done ++ with-hit found (all-hits q on) ≡ hits q t
   pub counted : f .count ≡ length done

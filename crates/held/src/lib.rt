@@ -14,17 +14,19 @@ ghost use Rattle.rules.specs.Tree.{Entry, Tree};
 ghost use Rattle.rules.specs.Query.{hits};
 ghost use Rattle.rules.specs.Steps.{Pending, at-start};
 ghost use Rattle.interval.specs.Interval.{range-of};
-ghost use Rattle.walk.specs.Walk.{Pends, Hit as Hits, Walkable, next};
+ghost use Rattle.walk.specs.Walk.{Stands, Hit as Hits, Walkable, next};
 ghost use Rattle.held.specs.Held.{Waiting, Turned, first-of};
 ghost use Rattle.held.specs.Records.{record-of, records-into, Sought, Ahead};
 
 // As many nodes as can be pending.
 pub const ROOM: usize = 16;
 
-// The pending nodes' slots, the latest last, how many they are, and the slot that the latest step hit, 0 for none.
+// The pending nodes' slots, the latest last, how many they are, the slot of the latest and the slot that the latest step
+// hit, each 0 for none.
 pub struct Stack {
     pub nodes: [u64; ROOM],
     pub pending: usize,
+    pub top: u64,
     pub hit: u64,
 }
 
@@ -45,6 +47,7 @@ fn begin(slots: &[u64], root: u64) -> Stack
     Stack {
         nodes,
         pending,
+        top: root,
         hit: 0,
     }
 }
@@ -56,10 +59,12 @@ fn onward(slots: &[u64], query: Interval, stack: Stack) -> Stack
 {
     let mut nodes = stack.nodes;
     let pending = stack.pending;
-    let after = walk::next(slots, &mut nodes, pending, query);
+    let top = stack.top;
+    let after = walk::next(slots, &mut nodes, pending, top, query);
     Stack {
         nodes,
         pending: after.pending,
+        top: after.top,
         hit: after.hit,
     }
 }
@@ -105,10 +110,12 @@ pub struct Hit {
     pub value: u64,
 }
 
-// A query on its way: how many nodes are pending, the latest hit's record and whether there is one, how many hits came
-// before it, how many records there is room for, and whether the latest is to be written.
+// A query on its way: how many nodes are pending and the slot of the latest, 0 for none, the latest hit's record and
+// whether there is one, how many hits came before it, how many records there is room for, and whether the latest is to be
+// written.
 struct Filling {
     pub pending: usize,
+    pub top: u64,
     pub row: Hit,
     pub there: bool,
     pub count: usize,
@@ -140,18 +147,20 @@ fn seek(
     query: Interval,
     stack: &mut [u64; ROOM],
     pending: usize,
+    top: u64,
     count: usize,
     room: usize,
 ) -> Filling
-    requires { ⌜ ((p : Pending) × Pends (now slots) (now stack) pending p) ⌝ }
-    ensures { λ f. ⌜ (f .count ≡ count) × (f .room ≡ room) × ((p : Pending) → Pends (now (slots .entry)) (now (stack .entry)) pending p → Sought (now (slots .entry)) (now (stack .exit)) f (next (range-of query) p)) ⌝ }
+    requires { ⌜ ((p : Pending) × Stands (now slots) (now stack) pending top p) ⌝ }
+    ensures { λ f. ⌜ (f .count ≡ count) × (f .room ≡ room) × ((p : Pending) → Stands (now (slots .entry)) (now (stack .entry)) pending top p → Sought (now (slots .entry)) (now (stack .exit)) f (next (range-of query) p)) ⌝ }
 {
-    let after = walk::next(slots, stack, pending, query);
+    let after = walk::next(slots, stack, pending, top, query);
     let row = row(slots, after.hit);
     let there = after.hit != 0;
     let fits = there & (count < room);
     Filling {
         pending: after.pending,
+        top: after.top,
         row,
         there,
         count,
@@ -173,7 +182,7 @@ fn start(slots: &[u64], root: u64, query: Interval, room: usize) -> Begun
 {
     let mut nodes = [0u64; ROOM];
     let pending = walk::leave(&mut nodes, 0, root);
-    let first = seek(slots, query, &mut nodes, pending, 0, room);
+    let first = seek(slots, query, &mut nodes, pending, root, 0, room);
     Begun { nodes, first }
 }
 
@@ -183,7 +192,15 @@ fn go_on(slots: &[u64], query: Interval, stack: &mut [u64; ROOM], filling: Filli
     ensures { λ f. ⌜ (f .count ≡ filling .count + 1) × (f .room ≡ filling .room) × ((t : Tree) → Ahead (now (slots .entry)) (now (stack .entry)) (range-of query) t filling → Ahead (now (slots .entry)) (now (stack .exit)) (range-of query) t f) ⌝ }
 {
     let count = filling.count + 1;
-    seek(slots, query, stack, filling.pending, count, filling.room)
+    seek(
+        slots,
+        query,
+        stack,
+        filling.pending,
+        filling.top,
+        count,
+        filling.room,
+    )
 }
 
 // The count with one more, if there is one.
@@ -200,11 +217,13 @@ fn rest(slots: &[u64], query: Interval, stack: &mut [u64; ROOM], filling: Fillin
     ensures { λ n. ⌜ ((t : Tree) → Ahead (now (slots .entry)) (now (stack .entry)) (range-of query) t filling → n ≡ length (hits (range-of query) t)) ⌝ }
 {
     let mut pending = filling.pending;
+    let mut top = filling.top;
     let mut count = counted(filling.count, filling.there);
     while pending > 0 {
-        let after = walk::next(slots, stack, pending, query);
+        let after = walk::next(slots, stack, pending, top, query);
         count = counted(count, after.hit != 0);
         pending = after.pending;
+        top = after.top;
     }
     count
 }

@@ -18,7 +18,7 @@ use Rattle.rules.proofs.Hits.{few-hits}
 use Rattle.rules.proofs.Pending.{each-at-start, in-order-down, Fits, fits-down}
 use Rattle.node.proofs.Few.{few-entries}
 use Rattle.walk.specs.declared.After.{After}
-use Rattle.walk.specs.Walk.{Pends, Hit, Leaves, next, Walkable}
+use Rattle.walk.specs.Walk.{Stands, Hit, Leaves, next, Walkable}
 use Rattle.walk.specs.Inside.{with-hit-row}
 use Rattle.walk.proofs.Stack.{starts}
 use Rattle.walk.proofs.Onward.{next-falls, each-next, next-hits}
@@ -26,10 +26,10 @@ use Rattle.walk.proofs.Seeking.{entries-at, entries-total, each-fits}
 use Rattle.walk.proofs.Lines.{rows-more}
 
 -- a query on its way through t: `done` are counted and written
-pub record Walks (ss stack : List ℕ) (n : ℕ) (q : Range) (t : Tree) (start run : List ℕ) (count : ℕ) : Type 0 where
+pub record Walks (ss stack : List ℕ) (n top : ℕ) (q : Range) (t : Tree) (start run : List ℕ) (count : ℕ) : Type 0 where
   pub on : Pending
   pub done : List Entry
-  pub pends : Pends ss stack n on
+  pub stands : Stands ss stack n top on
   pub in-order : Each In-order on
   pub all : done ++ all-hits q on ≡ hits q t
   pub counted : count ≡ length done
@@ -43,12 +43,12 @@ start-hits q (node e l r) = append-nil (hits q (node e l r))
 -- at the start nothing is counted or written
 pub walk-start :
     {ss run : List ℕ} {k : ℕ} {t : Tree} (q : Range) (stack : List ℕ) → Walkable ss k t → length stack ≡ most-pending
-    → Walks ss (set stack 0 k) (cond (eqb k 0) 0 (suc 0)) q t run run 0
+    → Walks ss (set stack 0 k) (cond (eqb k 0) 0 (suc 0)) k q t run run 0
 walk-start {t = t} q stack w long =
     record {
       on = at-start t;
       done = [];
-      pends = starts stack w long;
+      stands = starts stack w long;
       in-order = each-at-start In-order t (w .in-order);
       all = start-hits q t;
       counted = refl;
@@ -60,7 +60,8 @@ hit-before : (o : Option Entry) (es : List Entry) → with-hit o [] ++ es ≡ wi
 hit-before none es = refl
 hit-before (some e) es = refl
 
-module _ {ss stack start run : List ℕ} {n count : ℕ} {q : Range} {t : Tree} (w : Walks ss stack n q t start run count) where
+module _ {ss stack start run : List ℕ} {n top count : ℕ} {q : Range} {t : Tree}
+    (w : Walks ss stack n top q t start run count) where
   -- so they can be counted
   pub walk-few : {k : ℕ} → Walkable ss k t → count ≤ most-slots
   walk-few h =
@@ -76,7 +77,8 @@ module _ {ss stack start run : List ℕ} {n count : ℕ} {q : Range} {t : Tree} 
   -- nothing is pending: all hits are counted and written
   pub walk-over : n ≡ 0 → (count ≡ length (hits q t)) × (run ≡ rows-into (hits q t) start)
   walk-over z =
-      let all = go (w .pends .each) (sym (w .pends .counted) ∙ z) (w .all) in
+      let pends = w .stands .pends in
+      let all = go (pends .each) (sym (pends .counted) ∙ z) (w .all) in
       (rw all at (w .counted), rw all at (w .written))
     where
       go : {P : Tree → Pending → Type 0} {p : Pending} → Each P p → length p ≡ 0 → w .done ++ all-hits q p ≡ hits q t
@@ -84,16 +86,17 @@ module _ {ss stack start run : List ℕ} {n count : ℕ} {q : Range} {t : Tree} 
       go each-none z h = sym (append-nil (w .done)) ∙ h
       go (each-more x each) z h = absurd (omega arith)
 
-  module _ {after : List ℕ} {a : After} (sought : (p : Pending) → Pends ss stack n p → Leaves ss after a (next q p)) where
+  module _ {after : List ℕ} {a : After} (sought : (p : Pending) → Stands ss stack n top p → Leaves ss after a (next q p)) where
     -- what the next hit is
     pub walk-hit : (o : Option Entry) × Hit ss (a .hit) o
-    walk-hit = (next q (w .on) .hit, sought (w .on) (w .pends) .hits)
+    walk-hit = (next q (w .on) .hit, sought (w .on) (w .stands) .hits)
 
     -- with it fewer entries are pending
     pub walk-less : 0 < n → entries-at ss (take (a .pending) after) < entries-at ss (take n stack)
     walk-less h =
-        rw (entries-total (sought (w .on) (w .pends) .pends), entries-total (w .pends))
-        (go (each-fits (w .pends .each)) (rw (w .pends .counted) at h))
+        let pends = w .stands .pends in
+        rw (entries-total (sought (w .on) (w .stands) .stands .pends), entries-total pends)
+        (go (each-fits (pends .each)) (rw (pends .counted) at h))
       where
         go : {p : Pending} → Each (Fits most-pending) p → 0 < length p → total (next q p .pending) < total p
         go each-none h = absurd (omega arith)
@@ -104,16 +107,16 @@ module _ {ss stack start run : List ℕ} {n count : ℕ} {q : Range} {t : Tree} 
         {run′ : List ℕ} {count′ : ℕ}
         → ((o : Option Entry) → Hit ss (a .hit) o
         → (count′ ≡ count + length (with-hit o [])) × (run′ ≡ with-hit-row run count o))
-        → Walks ss after (a .pending) q t start run′ count′
+        → Walks ss after (a .pending) (a .top) q t start run′ count′
     walk-on told =
-        let left = sought (w .on) (w .pends) in
+        let left = sought (w .on) (w .stands) in
         let o = next q (w .on) .hit in
         let p = next q (w .on) .pending in
         let wrote = told o (left .hits) in
         record {
           on = p;
           done = w .done ++ with-hit o [];
-          pends = left .pends;
+          stands = left .stands;
           in-order = each-next in-order-down q (w .in-order);
           all =
               append-assoc (w .done) (with-hit o []) (all-hits q p)

@@ -14,7 +14,7 @@ use Rattle.rules.specs.Stored.{slot-word, Stored, live}
 use Rattle.rules.proofs.Pending.{Fits, fits-down}
 use Rattle.rules.proofs.Steps.{step-falls}
 use Rattle.walk.specs.declared.After.{After}
-use Rattle.walk.specs.Walk.{stack-of, Waits, Pends, Hit, no-hit, hit-in, Leaves, until-hit, next}
+use Rattle.walk.specs.Walk.{stack-of, Waits, Pends, Stands, Hit, no-hit, hit-in, Leaves, until-hit, next}
 use Rattle.walk.proofs.Taking.{nothing}
 use Rattle.walk.proofs.Onward.{next-step}
 
@@ -76,49 +76,51 @@ module _ {P : Tree → Pending → Type 0} (q : Range) where
   less (each-more {e} {l} {r} {p} x each) h = step-falls q e l r p
 
 -- a walk on the way to its next hit after p: the steps so far have not hit
-pub record Seeks (ss stack : List ℕ) (n : ℕ) (q : Range) (p : Pending) : Type 0 where
+pub record Seeks (ss stack : List ℕ) (n top : ℕ) (q : Range) (p : Pending) : Type 0 where
   pub on : Pending
-  pub pends : Pends ss stack n on
+  pub stands : Stands ss stack n top on
   pub same : next q p ≡ next q on
 
-module _ {ss stack : List ℕ} {n : ℕ} {q : Range} where
+module _ {ss stack : List ℕ} {n top : ℕ} {q : Range} where
   -- no step has been made
-  pub seek-start : {p : Pending} → Pends ss stack n p → Seeks ss stack n q p
-  seek-start {p} h = record { on = p; pends = h; same = refl }
+  pub seek-start : {p : Pending} → Stands ss stack n top p → Seeks ss stack n top q p
+  seek-start {p} h = record { on = p; stands = h; same = refl }
 
   -- nothing is pending, so there is no next hit
   pub seek-over :
-      {p : Pending} → Seeks ss stack n q p → n ≡ 0
-      → Leaves ss stack (record { pending = 0; hit = 0 }) (next q p)
+      {p : Pending} → Seeks ss stack n top q p → n ≡ 0
+      → Leaves ss stack (record { pending = 0; top = 0; hit = 0 }) (next q p)
   seek-over s z =
-      rw (s .same ∙ over q (s .pends .each) (sym (s .pends .counted) ∙ z)) (nothing q (s .pends) z)
+      let pends = s .stands .pends in
+      rw (s .same ∙ over q (pends .each) (sym (pends .counted) ∙ z)) (nothing q (s .stands) z)
 
   module _
-      {after : List ℕ} {a : After} (stepped : (p : Pending) → Pends ss stack n p → Leaves ss after a (step q p)) where
+      {after : List ℕ} {a : After} (stepped : (p : Pending) → Stands ss stack n top p → Leaves ss after a (step q p)) where
     -- the next hit, from the next step on
     step-same :
-        {p : Pending} (s : Seeks ss stack n q p)
+        {p : Pending} (s : Seeks ss stack n top q p)
         → next q p ≡ until-hit (step q (s .on) .hit) (step q (s .on) .pending) (next q (step q (s .on) .pending))
-    step-same s = s .same ∙ next-step (fits-down most-pending) q (each-fits (s .pends .each))
+    step-same s = s .same ∙ next-step (fits-down most-pending) q (each-fits (s .stands .pends .each))
 
     -- one step more without a hit
-    pub seek-on : {p : Pending} → Seeks ss stack n q p → a .hit ≡ 0 → Seeks ss after (a .pending) q p
+    pub seek-on : {p : Pending} → Seeks ss stack n top q p → a .hit ≡ 0 → Seeks ss after (a .pending) (a .top) q p
     seek-on s z =
-        let left = stepped (s .on) (s .pends) in
+        let left = stepped (s .on) (s .stands) in
         record {
           on = step q (s .on) .pending;
-          pends = left .pends;
+          stands = left .stands;
           same = rw (none-hit (left .hits) z) at (step-same s);
         }
 
     -- one step more with a hit
-    pub seek-hit : {p : Pending} → Seeks ss stack n q p → (a .hit ≡ 0 → ⊥) → Leaves ss after a (next q p)
+    pub seek-hit : {p : Pending} → Seeks ss stack n top q p → (a .hit ≡ 0 → ⊥) → Leaves ss after a (next q p)
     seek-hit s some-hit =
-        let left = stepped (s .on) (s .pends) in rw (step-same s ∙ hit-ends _ _ (left .hits) some-hit) left
+        let left = stepped (s .on) (s .stands) in rw (step-same s ∙ hit-ends _ _ (left .hits) some-hit) left
 
     -- fewer entries are pending then
     pub seek-less :
-        {p : Pending} → Seeks ss stack n q p → 0 < n → entries-at ss (take (a .pending) after) < entries-at ss (take n stack)
+        {p : Pending} → Seeks ss stack n top q p → 0 < n → entries-at ss (take (a .pending) after) < entries-at ss (take n stack)
     seek-less s some-pending =
-        rw (entries-total (stepped (s .on) (s .pends) .pends), entries-total (s .pends))
-        (less q (s .pends .each) (rw (s .pends .counted) at some-pending))
+        let pends = s .stands .pends in
+        rw (entries-total (stepped (s .on) (s .stands) .stands .pends), entries-total pends)
+        (less q (pends .each) (rw (pends .counted) at some-pending))

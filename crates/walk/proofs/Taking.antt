@@ -4,7 +4,7 @@ use Prim.Native.Nat.{ℕ, suc, _+_, _-_, _≤_, _<_}
 use mathlib.Core.Bool.{Bool, true, false, cond}
 use mathlib.Core.List.{List, [], _∷_}
 use mathlib.Core.Logic.{⊎-elim}
-use mathlib.Core.Path.{_≡_, refl, sym, _∙_}
+use mathlib.Core.Path.{_≡_, refl, sym, ap, _∙_}
 use native.Mathlib.Omega.{arith}
 use lib.Dec.{eqb}
 use lib.ListN.{length, take, getD, set}
@@ -15,59 +15,61 @@ use Rattle.rules.specs.Steps.{Pending, leave, step, step-at, passed-over, skips
 use Rattle.rules.specs.Stored.{Stored, none, live}
 use Rattle.rules.proofs.Tests.{lt-cases}
 use Rattle.walk.specs.declared.Found.{Found}
-use Rattle.walk.specs.Walk.{stack-of, Waits, Pends, no-hit, Leaves}
+use Rattle.walk.specs.Walk.{stack-of, top-of, Waits, Pends, Stands, Hit, no-hit, Leaves}
 use Rattle.walk.specs.Inside.{Here, left-on, right-on, Looked}
-use Rattle.walk.proofs.Stack.{on-top, under-top, leave-one, leave-levels, left-pending}
+use Rattle.walk.proofs.Stack.{under-top, top-read, Fitting, slot-room, left-latest, left-none, none-pending}
 
 -- with nothing pending a step does nothing
 pub nothing :
-    {ss stack : List ℕ} {n : ℕ} {p : Pending} (q : Range) → Pends ss stack n p → n ≡ 0
-    → Leaves ss stack (record { pending = 0; hit = 0 }) (step q p)
-nothing {ss} {stack} q h z = go (h .each) (sym (h .counted) ∙ z) h
+    {ss stack : List ℕ} {n top : ℕ} {p : Pending} (q : Range) → Stands ss stack n top p → n ≡ 0
+    → Leaves ss stack (record { pending = 0; top = 0; hit = 0 }) (step q p)
+nothing {ss} {stack} q s z = go (s .pends .each) (sym (s .pends .counted) ∙ z)
   where
-    go : {n : ℕ} {p : Pending} → Each (Waits ss) p → length p ≡ 0 → Pends ss stack n p
-        → Leaves ss stack (record { pending = 0; hit = 0 }) (step q p)
-    go each-none none-pending h =
+    go : {p : Pending} → Each (Waits ss) p → length p ≡ 0
+        → Leaves ss stack (record { pending = 0; top = 0; hit = 0 }) (step q p)
+    go each-none none-left =
         record {
-          pends = record { room = h .room; long = h .long; counted = refl; on-stack = refl; each = each-none };
+          stands = record { pends = none-pending (s .pends .room) (s .pends .long); top-is = refl };
           hits = no-hit;
         }
-    go (each-more w each) none-pending h = absurd (omega arith)
+    go (each-more w each) none-left = absurd (omega arith)
 
--- the latest pending node, whose slot is on top of the stack, and those below it
-pub data Latest (ss stack : List ℕ) (n : ℕ) : Pending → Type 0 where
+-- the latest pending node, whose slot is `top`, and those below it
+pub data Latest (ss stack : List ℕ) (n top : ℕ) : Pending → Type 0 where
   latest :
-      {e : Entry} {l r : Tree} {p : Pending} → Here ss (getD stack (n - 1) 0) e l r → Pends ss stack (n - 1) p
-      → levels (node e l r) + (n - 1) ≤ most-pending → Latest ss stack n (node e l r ∷ p)
+      {e : Entry} {l r : Tree} {p : Pending} → Here ss top e l r → Pends ss stack (n - 1) p
+      → levels (node e l r) + (n - 1) ≤ most-pending → Latest ss stack n top (node e l r ∷ p)
 
 -- where something is pending there is a latest
 pub take-latest :
-    {ss stack : List ℕ} {n : ℕ} {p : Pending} → Pends ss stack n p → (n ≡ 0 → ⊥) → Latest ss stack n p
-take-latest {ss} {stack} {n} h some-pending = go (h .each) (h .counted) (h .on-stack)
+    {ss stack : List ℕ} {n top : ℕ} {p : Pending} → Stands ss stack n top p → (n ≡ 0 → ⊥) → Latest ss stack n top p
+take-latest {ss} {stack} {n} {top} s some-pending =
+    go (s .pends .each) (s .pends .counted) (s .pends .on-stack) (s .top-is)
   where
-    go : {p : Pending} → Each (Waits ss) p → n ≡ length p → take n stack ≡ stack-of p → Latest ss stack n p
-    go each-none counted on-stack = absurd (some-pending counted)
-    go (each-more {e} {l} {r} {p} w each) counted on-stack =
+    go : {p : Pending} → Each (Waits ss) p → n ≡ length p → take n stack ≡ stack-of p → top ≡ top-of p
+        → Latest ss stack n top p
+    go each-none counted on-stack top-is = absurd (some-pending counted)
+    go (each-more {e} {l} {r} {p} w each) counted on-stack top-is =
         let below : n - 1 ≡ length p = omega arith in
-        latest {e = e} {l = l} {r = r}
-        (record { room = h .room; slot-is = on-top stack n (node e l r) p counted on-stack; stored = w .stored })
+        latest {e = e} {l = l} {r = r} (record { room = s .pends .room; slot-is = sym top-is; stored = w .stored })
         (record {
-          room = h .room;
-          long = h .long;
+          room = s .pends .room;
+          long = s .pends .long;
           counted = below;
           on-stack = under-top stack n (node e l r) p counted on-stack;
           each = each;
         })
         (rw below (w .fits))
 
--- it stands in the slot that is on top
+-- it stands in slot `top`
 pub latest-here :
-    {ss stack : List ℕ} {n : ℕ} {p : Pending} → Latest ss stack n p
-    → (e : Entry) × (l : Tree) × (r : Tree) × Here ss (getD stack (n - 1) 0) e l r
+    {ss stack : List ℕ} {n top : ℕ} {p : Pending} → Latest ss stack n top p
+    → (e : Entry) × (l : Tree) × (r : Tree) × Here ss top e l r
 latest-here (latest {e} {l} {r} here below fits) = (e, l, r, here)
 
 -- without it there is room for one
-pub latest-below : {ss stack : List ℕ} {n : ℕ} {p : Pending} → Latest ss stack n p → n - 1 < most-pending
+pub latest-below :
+    {ss stack : List ℕ} {n top : ℕ} {p : Pending} → Latest ss stack n top p → n - 1 < most-pending
 latest-below (latest here below fits) = omega arith
 
 -- a child that may be skipped is stored, and has no more levels
@@ -113,35 +115,84 @@ module _ (q : Range) (e : Entry) (l r : Tree) where
       (λ f. rw (f .1))
       (lt-cases (q .start) (max-end (node e l r)))
 
-module _ {ss stack : List ℕ} {n : ℕ} {q : Range} {f : Found}
-    (looked : (e : Entry) (l r : Tree) → Here ss (getD stack (n - 1) 0) e l r → Looked ss q e l r f) where
-  -- with the left child, if it is left, there is room for one more
-  pub latest-room :
-      {p : Pending} → Latest ss stack n p → cond (eqb (f .left) 0) (n - 1) (suc (n - 1)) < most-pending
-  latest-room (latest {e} {l} {r} {p} here below fits) =
-      let least = left-levels q e l r in
-      let pends = left-pending (left-stored q e l r (here .stored)) (omega arith) (omega arith) below in
-      rw (looked e l r here .left-is)
-      (omega (arith, pends .counted, below .counted, leave-levels (left-on q e l r) p))
+-- what a step finds at the latest of n + 1 pending nodes: the children that it leaves pending, each a tree or none, those
+-- that are pending below, and what it hits
+pub record Leads (ss stack : List ℕ) (n : ℕ) (q : Range) (f : Found) (p : Pending) : Type 0 where
+  left : Tree
+  right : Tree
+  under : Pending
+  below : Pends ss stack n under
+  left-fits : Fitting ss (suc n) (f .left) left
+  right-fits : Fitting ss (suc n) (f .right) right
+  pending-is : step q p .pending ≡ leave right (leave left under)
+  hits : Hit ss (f .hit) (step q p .hit)
 
-  -- the stack with both children, and what was hit
-  pub taken :
-      {p : Pending} {left-stack right-stack : List ℕ} {with-left with-right : ℕ} → Latest ss stack n p
-      → left-stack ≡ set stack (n - 1) (f .left) → with-left ≡ cond (eqb (f .left) 0) (n - 1) (suc (n - 1))
-      → right-stack ≡ set left-stack with-left (f .right)
-      → with-right ≡ cond (eqb (f .right) 0) with-left (suc with-left)
-      → Leaves ss right-stack (record { pending = with-right; hit = f .hit }) (step q p)
-  taken (latest {e} {l} {r} {p} here below fits) s a t b =
-      let found = looked e l r here in
-      let left-low = left-levels q e l r in
-      let right-low = right-levels q e l r in
-      let left = left-pending (left-stored q e l r (here .stored)) (omega arith) (omega arith) below in
-      let counted = left .counted in
-      let before = below .counted in
-      let one = leave-one (left-on q e l r) p in
-      let few = leave-levels (left-on q e l r) p in
-      rw (b, t, a, s, found .left-is, found .right-is, step-leaves q e l r p)
-      (record {
-        pends = left-pending (right-stored q e l r (here .stored)) (omega arith) (omega arith) left;
-        hits = found .hit-is;
-      })
+-- a look at the latest finds this
+pub leads :
+    {ss stack : List ℕ} {n top : ℕ} {q : Range} {f : Found} {p : Pending}
+    → ((e : Entry) (l r : Tree) → Here ss top e l r → Looked ss q e l r f) → Latest ss stack n top p
+    → Leads ss stack (n - 1) q f p
+leads {q = q} looked (latest {e} {l} {r} {p} here below fits) =
+    let found = looked e l r here in
+    let left-low = left-levels q e l r in
+    let right-low = right-levels q e l r in
+    record {
+      left = left-on q e l r;
+      right = right-on q e l r;
+      under = p;
+      below = below;
+      left-fits =
+          record { stored = left-stored q e l r (here .stored); slot-is = found .left-is; fits = omega arith };
+      right-fits =
+          record { stored = right-stored q e l r (here .stored); slot-is = found .right-is; fits = omega arith };
+      pending-is = ap (λ s. s .pending) (step-leaves q e l r p);
+      hits = rw (step-leaves q e l r p) (found .hit-is);
+    }
+
+module _ {ss stack : List ℕ} {n : ℕ} {q : Range} {f : Found} {p : Pending} (d : Leads ss stack n q f p) where
+  -- where the right child is left pending, there is room for it above the left one
+  pub latest-room : (f .right ≡ 0 → ⊥) → suc n < most-pending
+  latest-room = slot-room (d .right-fits)
+
+  -- a walk that stands at these children above the others has taken the step
+  taken :
+      {after : List ℕ} {count top : ℕ} → Stands ss after count top (leave (d .right) (leave (d .left) (d .under)))
+      → Leaves ss after (record { pending = count; top = top; hit = f .hit }) (step q p)
+  taken s = record { stands = rw (d .pending-is) s; hits = d .hits }
+
+  -- both children are left pending, the right one as the latest
+  pub both-wait :
+      (f .right ≡ 0 → ⊥) → (f .left ≡ 0 → ⊥)
+      → Leaves ss (set (set stack n (f .left)) (suc n) (f .right))
+      (record { pending = suc (suc n); top = f .right; hit = f .hit })
+      (step q p)
+  both-wait right left =
+      taken
+      (left-latest (d .right-fits) right (omega arith)
+      (left-latest (d .left-fits) left (omega arith) (d .below) .pends))
+
+  -- one alone is left pending: the right one, or the left one
+  one-waits :
+      {k : ℕ} {t : Tree} → Fitting ss (suc n) k t → (k ≡ 0 → ⊥)
+      → leave (d .right) (leave (d .left) (d .under)) ≡ leave t (d .under)
+      → Leaves ss (set stack n k) (record { pending = suc n; top = k; hit = f .hit }) (step q p)
+  one-waits c some alone = taken (rw alone (left-latest c some (omega arith) (d .below)))
+
+  pub right-waits :
+      (f .right ≡ 0 → ⊥) → f .left ≡ 0
+      → Leaves ss (set stack n (f .right)) (record { pending = suc n; top = f .right; hit = f .hit }) (step q p)
+  right-waits right no-left = one-waits (d .right-fits) right (rw (left-none (d .left-fits) no-left))
+
+  pub left-waits :
+      f .right ≡ 0 → (f .left ≡ 0 → ⊥)
+      → Leaves ss (set stack n (f .left)) (record { pending = suc n; top = f .left; hit = f .hit }) (step q p)
+  left-waits no-right left = one-waits (d .left-fits) left (left-none (d .right-fits) no-right)
+
+  -- none is, and the latest is the one below, as it is read from the stack
+  pub none-waits :
+      {top : ℕ} → f .right ≡ 0 → f .left ≡ 0 → top ≡ cond (eqb n 0) 0 (getD stack (n - 1) 0)
+      → Leaves ss stack (record { pending = n; top = top; hit = f .hit }) (step q p)
+  none-waits no-right no-left read =
+      taken
+      (rw (left-none (d .right-fits) no-right, left-none (d .left-fits) no-left)
+      (record { pends = d .below; top-is = read ∙ top-read (d .below) }))

@@ -18,6 +18,11 @@ abbrev pub stack-of : Pending → List ℕ
 stack-of [] = []
 stack-of (t ∷ p) = stack-of p ++ root t ∷ []
 
+-- and of these the last, the slot of the latest pending tree: 0 where none is pending
+abbrev pub top-of : Pending → ℕ
+top-of [] = 0
+top-of (t ∷ p) = root t
+
 -- a pending tree is stored, and as many words as it has levels fit on the stack above those pending before it
 pub record Waits (ss : List ℕ) (t : Tree) (before : Pending) : Type 0 where
   pub stored : Stored ss t
@@ -32,14 +37,21 @@ pub record Pends (ss stack : List ℕ) (count : ℕ) (p : Pending) : Type 0 wher
   pub on-stack : take count stack ≡ stack-of p
   pub each : Each (Waits ss) p
 
+-- Where a walk stands: the stack holds the pending trees, and `top` is the slot of the latest. By `on-stack` that is the
+-- last of the stack's first words.
+pub record Stands (ss stack : List ℕ) (count top : ℕ) (p : Pending) : Type 0 where
+  pub pends : Pends ss stack count p
+  pub top-is : top ≡ top-of p
+
 -- what a slot number says of a hit: 0 that there is none, another that this slot holds the entry hit
 pub data Hit (ss : List ℕ) : ℕ → Option Entry → Type 0 where
   no-hit : Hit ss 0 none
   hit-in : {e : Entry} → Bears ss e → Hit ss (e .slot) (some e)
 
--- the stack holds the nodes pending after the step, and the answer says their number and what the step hit
+-- the stack holds the nodes pending after the step, and the answer says their number, the latest's slot and what the step
+-- hit
 pub record Leaves (ss stack : List ℕ) (a : After) (s : Step) : Type 0 where
-  pub pends : Pends ss stack (a .pending) (s .pending)
+  pub stands : Stands ss stack (a .pending) (a .top) (s .pending)
   pub hits : Hit ss (a .hit) (s .hit)
 
 -- a step that hit, or else what follows it

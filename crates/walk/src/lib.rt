@@ -6,9 +6,9 @@ ghost use mathlib.Core.Path.{_≡_};
 ghost use mathlib.Core.Bool.{cond};
 ghost use mathlib.Core.List.{[]};
 ghost use mathlib.Core.Option.{Option};
-ghost use Prim.Native.Nat.{suc, _+_, _≤_, _<_};
+ghost use Prim.Native.Nat.{suc, _+_, _-_, _≤_, _<_};
 ghost use lib.Dec.{eqb};
-ghost use lib.ListN.{length, set};
+ghost use lib.ListN.{length, getD, set};
 ghost use Rattle.rules.specs.Limits.{most-slots, most-pending};
 ghost use Rattle.rules.specs.Tree.{Entry, Tree};
 ghost use Rattle.rules.specs.Query.{hits};
@@ -16,15 +16,16 @@ ghost use Rattle.rules.specs.Steps.{Pending, step, with-hit};
 ghost use Rattle.rules.specs.Entries.{rows-into};
 ghost use Rattle.rules.specs.Stored.{slot-word, Within};
 ghost use Rattle.interval.specs.Interval.{range-of};
-ghost use Rattle.walk.specs.Walk.{Pends, Hit, Leaves, next, Walkable};
+ghost use Rattle.walk.specs.Walk.{Stands, Hit, Leaves, next, Walkable};
 ghost use Rattle.walk.specs.Inside.{Here, Looked, with-row, with-hit-row};
 
 // As many nodes as can be pending.
 pub const ROOM: usize = 16;
 
-// After a step: how many nodes are pending, and the slot that was hit, 0 for none.
+// After a step: how many nodes are pending, the slot of the latest of them and the slot that was hit, each 0 for none.
 pub struct After {
     pub pending: usize,
+    pub top: u64,
     pub hit: u64,
 }
 
@@ -84,38 +85,91 @@ pub fn leave(stack: &mut [u64; ROOM], pending: usize, k: u64) -> usize
     if k == 0 { pending } else { pending + 1 }
 }
 
-// One step: takes the latest pending node, and leaves its children that aren't skipped pending, left before right.
-pub fn step(slots: &[u64], stack: &mut [u64; ROOM], pending: usize, query: Interval) -> After
-    requires { ⌜ ((p : Pending) × Pends (now slots) (now stack) pending p) ⌝ }
-    ensures { λ a. ⌜ ((p : Pending) → Pends (now (slots .entry)) (now (stack .entry)) pending p → Leaves (now (slots .entry)) (now (stack .exit)) a (step (range-of query) p)) ⌝ }
+// Leaves the node in slot k pending above `pending` others, after a step that hit `hit`: it is the latest then.
+fn leave_last(stack: &mut [u64; ROOM], pending: usize, k: u64, hit: u64) -> After
+    requires { ⌜ pending < most-pending ⌝ }
+    ensures { λ a. ⌜ (now (stack .exit) ≡ set (now (stack .entry)) pending k) × (a ≡ record { pending = suc pending; top = k; hit = hit }) ⌝ }
+{
+    stack[pending] = k;
+    After {
+        pending: pending + 1,
+        top: k,
+        hit,
+    }
+}
+
+// The slot of the latest of `pending` nodes, as it stands on the stack, 0 where none is pending.
+fn top_of(stack: &[u64; ROOM], pending: usize) -> u64
+    requires { ⌜ pending ≤ most-pending ⌝ }
+    ensures { λ k. ⌜ k ≡ cond (eqb pending 0) 0 (getD (now (stack .entry)) (pending - 1) 0) ⌝ }
+{
+    if pending == 0 { 0 } else { stack[pending - 1] }
+}
+
+// One step: takes the latest pending node, which is in slot `top`, and leaves its children that aren't skipped pending,
+// left before right.
+pub fn step(
+    slots: &[u64],
+    stack: &mut [u64; ROOM],
+    pending: usize,
+    top: u64,
+    query: Interval,
+) -> After
+    requires { ⌜ ((p : Pending) × Stands (now slots) (now stack) pending top p) ⌝ }
+    ensures { λ a. ⌜ ((p : Pending) → Stands (now (slots .entry)) (now (stack .entry)) pending top p → Leaves (now (slots .entry)) (now (stack .exit)) a (step (range-of query) p)) ⌝ }
 {
     if pending == 0 {
-        return After { pending: 0, hit: 0 };
+        return After {
+            pending: 0,
+            top: 0,
+            hit: 0,
+        };
     }
     let below = pending - 1;
-    let found = look(slots, stack[below], query);
-    let with_left = leave(stack, below, found.left);
-    let with_right = leave(stack, with_left, found.right);
+    let found = look(slots, top, query);
+    if found.right != 0 {
+        if found.left != 0 {
+            stack[below] = found.left;
+            return leave_last(stack, pending, found.right, found.hit);
+        }
+        return leave_last(stack, below, found.right, found.hit);
+    }
+    if found.left != 0 {
+        return leave_last(stack, below, found.left, found.hit);
+    }
     After {
-        pending: with_right,
+        pending: below,
+        top: top_of(stack, below),
         hit: found.hit,
     }
 }
 
 // The next hit: steps until one hits or nothing is pending.
-pub fn next(slots: &[u64], stack: &mut [u64; ROOM], pending: usize, query: Interval) -> After
-    requires { ⌜ ((p : Pending) × Pends (now slots) (now stack) pending p) ⌝ }
-    ensures { λ a. ⌜ ((p : Pending) → Pends (now (slots .entry)) (now (stack .entry)) pending p → Leaves (now (slots .entry)) (now (stack .exit)) a (next (range-of query) p)) ⌝ }
+pub fn next(
+    slots: &[u64],
+    stack: &mut [u64; ROOM],
+    pending: usize,
+    top: u64,
+    query: Interval,
+) -> After
+    requires { ⌜ ((p : Pending) × Stands (now slots) (now stack) pending top p) ⌝ }
+    ensures { λ a. ⌜ ((p : Pending) → Stands (now (slots .entry)) (now (stack .entry)) pending top p → Leaves (now (slots .entry)) (now (stack .exit)) a (next (range-of query) p)) ⌝ }
 {
     let mut left = pending;
+    let mut latest = top;
     while left > 0 {
-        let after = step(slots, stack, left, query);
+        let after = step(slots, stack, left, latest, query);
         if after.hit != 0 {
             return after;
         }
         left = after.pending;
+        latest = after.top;
     }
-    After { pending: 0, hit: 0 }
+    After {
+        pending: 0,
+        top: 0,
+        hit: 0,
+    }
 }
 
 // Writes start, end and value of slot k as row number n, if there is room for it.
@@ -154,11 +208,13 @@ pub fn query(slots: &[u64], root: u64, query: Interval, rows: &mut [u64]) -> usi
 {
     let mut stack = [0u64; ROOM];
     let mut pending = leave(&mut stack, 0, root);
+    let mut top = root;
     let mut count = 0;
     while pending > 0 {
-        let after = next(slots, &mut stack, pending, query);
+        let after = next(slots, &mut stack, pending, top, query);
         count = count_hit(slots, after.hit, rows, count);
         pending = after.pending;
+        top = after.top;
     }
     count
 }

@@ -171,7 +171,7 @@ module _ {M : Type 1} (𝓤 : URA M) (H : Heap 𝓤) (A : Atoms 𝓤) (W : Given
   walk-is w u was = subst (Is (T.the-row αᵉ) w) (LL.tells (T.the-type αᵉ) (T′.the-laws αᵉ) w (u ∷ []) was) was
 
   hit-fits : (w : Walk) (u : Val) → Is (B (κ, tt)) w (u ∷ []) → w .stack .hit < 2 ^ 64
-  hit-fits w u was = LL.owed S.the-type S′.the-laws (w .stack) _ (LL.owed (T.the-type αᵉ) (T′.the-laws αᵉ) w _ (walk-is w u was) .1 .1 .0) .1 .1 .0 .1
+  hit-fits w u was = LL.owed S.the-type S′.the-laws (w .stack) _ (LL.owed (T.the-type αᵉ) (T′.the-laws αᵉ) w _ (walk-is w u was) .1 .1 .0) .1 .1 .1 .0 .1
 
   module _ (C : Calls 𝓤 H) (Λ : Loops 𝓤 H) (fm : FmC 𝓤 H (W .laws) C) (known-new : Triple 𝓤 (C #held·new) (New 𝓤 H A mem run)) (known-next : Triple 𝓤 (C #held·next) (Next 𝓤 H A mem run)) where
     walk : Asked (now s) k → Is (ShrSlice (named 0) κ u64) s (v ∷ []) → k < 2 ^ 64 → Is I.the-row query (qv ∷ []) → ent 𝓤 (onEntry 𝓤 H A first.signature (κ, tt) (q, tt) a vals) (WpFn 𝓤 H C Λ code.function (v ∷ vint w64 k ∷ qv ∷ []) Post)
@@ -194,7 +194,7 @@ module _ {M : Type 1} (𝓤 : URA M) (H : Heap 𝓤) (A : Atoms 𝓤) (W : Given
         -- [the token; what the slots own; _5; …; room for _4; …; _3; …; _2; …; _1; …; room for _0; …]
         land ! (from ! (stop !)) (init ! 4 refl (LL.lawful (T.the-type αᵉ) (T′.the-laws αᵉ) 𝓤 H A W .typed w _ was .0)) $
         rewrite ! 4 (λ (z : Val). ‵ (fat fullShare (T′.mir erased) l₄ 0 z)) (ap only (LL.tells (T.the-type αᵉ) (T′.the-laws αᵉ) w (u′ ∷ []) was)) refl $
-        assigns ! (of-opd ! (load ! (from ! (fld ! refl (fld ! refl (stop !)))) (look-in ! 4 (sub ! 2 refl (sub ! 2 refl (whole !)))))) (from ! (stop !)) (init ! 12 refl (tt, record { fits = hit-fits w u′ was })) $
+        assigns ! (of-opd ! (load ! (from ! (fld ! refl (fld ! refl (stop !)))) (look-in ! 4 (sub ! 3 refl (sub ! 2 refl (whole !)))))) (from ! (stop !)) (init ! 12 refl (tt, record { fits = hit-fits w u′ was })) $
         returns ! (look ! 12 refl) $ forget ! 2 refl $ forget ! 4 refl $ forget ! 6 refl $ forget ! 8 refl $ forget ! 10 refl $ forget ! 12 refl $
         move ! (12 ∷ 13 ∷ []) $ free1 ! $ move ! (10 ∷ 11 ∷ []) $ free1 ! $ move ! (8 ∷ 9 ∷ []) $ free1 ! $ move ! (6 ∷ 7 ∷ []) $ free1 ! $ move ! (4 ∷ 5 ∷ []) $ free1 ! $ move ! (2 ∷ 3 ∷ []) $ free1 ! $ free0 ! $
         by ! (exits fits is-query (w .stack .hit) (hit-fits w u′ was) (found s k query r w e e′))))))))))))))))

@@ -8,7 +8,7 @@ next-requires c κs = c .before .before .before .pre
 returns : tie.Need-returns
 returns c p h =
     let after = c .next .ensures p h in
-    record { waits = after .pends; hits = after .hits }
+    record { waits = after .stands; hits = after .hits }
 
 pub onward-spec : {M : Type 1} → statement M
 onward-spec = tie.close (tie.spec next-requires returns)

@@ -12,11 +12,12 @@ use Rattle.held.proofs.rest.Statement.{statement}
 use Rattle.held.proofs.rest.Tie as tie
 
 abbrev Inv-loop : tie.InvT-loop
-Inv-loop slots query stack₀ pending₀ count₀ stack pending count =
-    (t : Tree) → Walks slots stack₀ pending₀ (range-of query) t [] [] count₀ → Walks slots stack pending (range-of query) t [] [] count
+Inv-loop slots query stack₀ pending₀ top₀ count₀ stack pending top count =
+    (t : Tree) → Walks slots stack₀ pending₀ top₀ (range-of query) t [] [] count₀
+    → Walks slots stack pending top (range-of query) t [] [] count
 
 abbrev μ-loop : tie.MeasureT-loop
-μ-loop slots query stack₀ pending₀ count₀ stack pending count = entries-at slots (take pending stack)
+μ-loop slots query stack₀ pending₀ top₀ count₀ stack pending top count = entries-at slots (take pending stack)
 
 counted-requires : tie.Need-counted-requires Inv-loop μ-loop
 counted-requires c κs = ahead-few (c .before .pre .1)
@@ -29,7 +30,7 @@ next-requires c κs =
     let head = c .before .before in
     let a = head .before .before .before .pre in
     let w = head .loop .inv (a .0) (rw (head .before .counted .ensures) (rest-start (a .1))) in
-    (w .on, w .pends)
+    (w .on, w .stands)
 
 counted-requires-2 : tie.Need-counted-requires-2 Inv-loop μ-loop
 counted-requires-2 c κs =

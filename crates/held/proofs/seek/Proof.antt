@@ -21,7 +21,7 @@ returns c =
       λ p h.
           let after = c .before .before .next .ensures p h in
           record {
-            pends = after .pends;
+            stands = after .stands;
             row = c .before .row .ensures _ (after .hits);
             there = is-slot (after .hits);
             fits = is-slot-written (after .hits) (args .count) (args .room);

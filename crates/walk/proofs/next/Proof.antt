@@ -4,17 +4,17 @@ use native.Mathlib.Omega.{arith}
 use lib.ListN.{take}
 use Rattle.interval.specs.Interval.{range-of}
 use Rattle.rules.specs.Steps.{Pending}
-use Rattle.walk.specs.Walk.{Pends}
+use Rattle.walk.specs.Walk.{Stands}
 use Rattle.walk.proofs.Seeking.{entries-at, Seeks, seek-start, seek-over, seek-on, seek-hit, seek-less}
 use Rattle.walk.proofs.next.Statement.{statement}
 use Rattle.walk.proofs.next.Tie as tie
 
 abbrev Inv-loop : tie.InvT-loop
-Inv-loop slots stack₀ pending query left₀ stack left =
-    (p : Pending) → Pends slots stack₀ pending p → Seeks slots stack left (range-of query) p
+Inv-loop slots stack₀ pending top query left₀ latest₀ stack left latest =
+    (p : Pending) → Stands slots stack₀ pending top p → Seeks slots stack left latest (range-of query) p
 
 abbrev μ-loop : tie.MeasureT-loop
-μ-loop slots stack₀ pending query left₀ stack left = entries-at slots (take left stack)
+μ-loop slots stack₀ pending top query left₀ latest₀ stack left latest = entries-at slots (take left stack)
 
 loop-holds : tie.Need-loop-holds Inv-loop μ-loop
 loop-holds c p h = seek-start h
@@ -23,7 +23,7 @@ step-requires : tie.Need-step-requires Inv-loop μ-loop
 step-requires c κs =
     let start = c .before .before .before .before .pre in
     let s = c .before .before .loop .inv (start .0) (start .1) in
-    (s .on, s .pends)
+    (s .on, s .stands)
 
 returns : tie.Need-returns Inv-loop μ-loop
 returns c p h =

@@ -14,12 +14,13 @@ use Rattle.walk.proofs.query.Statement.{statement}
 use Rattle.walk.proofs.query.Tie as tie
 
 abbrev Inv-loop : tie.InvT-loop
-Inv-loop slots root query rows₀ stack₀ pending₀ count₀ rows stack pending count =
+Inv-loop slots root query rows₀ stack₀ pending₀ top₀ count₀ rows stack pending top count =
     (length rows ≡ length rows₀)
-    × ((t : Tree) → Walkable slots root t → Walks slots stack pending (range-of query) t rows₀ rows count)
+    × ((t : Tree) → Walkable slots root t → Walks slots stack pending top (range-of query) t rows₀ rows count)
 
 abbrev μ-loop : tie.MeasureT-loop
-μ-loop slots root query rows₀ stack₀ pending₀ count₀ rows stack pending count = entries-at slots (take pending stack)
+μ-loop slots root query rows₀ stack₀ pending₀ top₀ count₀ rows stack pending top count =
+    entries-at slots (take pending stack)
 
 leave-requires : tie.Need-leave-requires Inv-loop μ-loop
 leave-requires c κs = omega arith
@@ -32,7 +33,7 @@ next-requires c κs =
     let head = c .before .before in
     let pre = head .before .before .before .before .before .pre in
     let w = head .loop .inv .1 (pre .0) (pre .1) in
-    (w .on, w .pends)
+    (w .on, w .stands)
 
 count-hit-requires : tie.Need-count-hit-requires Inv-loop μ-loop
 count-hit-requires c κs =

@@ -193,19 +193,19 @@ module _ {M : Type 1} (𝓤 : URA M) (H : Heap 𝓤) (A : Atoms 𝓤) (W : Given
     more y fits =
         let f = y .filling in
         let fields = LL.owed F.the-type F′.the-laws f _ (y .is) in
-        let is-row = fields .1 .0 in
+        let is-row = fields .1 .1 .0 in
         let within = on-within (y .on) (need .1) fits in
         let place-fits : f .count * 24 < 2 ^ 64 = in-bytes (f .count) (length rows) (subst (λ (m : ℕ). f .count < m) (y .on .as-long) within) (room .1) in
-        assigns ! (of-opd ! (load ! (from ! (fld ! refl (stop !))) (look-in ! 20 (sub ! 5 refl (whole !))))) (from ! (stop !)) (init ! 16 refl (tt, tt)) $
+        assigns ! (of-opd ! (load ! (from ! (fld ! refl (stop !))) (look-in ! 20 (sub ! 6 refl (whole !))))) (from ! (stop !)) (init ! 16 refl (tt, tt)) $
         rewrite ! 16 (λ (t : Bool). ‵ (fat fullShare tyBool l₈ 0 (vbool t))) fits refl $
         stays ! (load ! (from ! (stop !)) (look ! 16 refl)) $
-        assigns ! (of-opd ! (load ! (from ! (fld ! refl (stop !))) (look-in ! 20 (sub ! 3 refl (whole !))))) (from ! (stop !)) (init ! 18 refl (tt, record { fits = fields .1 .1 .1 .0 .1 })) $
+        assigns ! (of-opd ! (load ! (from ! (fld ! refl (stop !))) (look-in ! 20 (sub ! 4 refl (whole !))))) (from ! (stop !)) (init ! 18 refl (tt, record { fits = fields .1 .1 .1 .1 .0 .1 })) $
         assigns ! (bin ! (load ! (from ! (stop !)) (look ! 18 refl)) (lit ! tt) (record { fits = place-fits })) (from ! (stop !)) (init ! 14 refl (tt, record { fits = place-fits })) $
         assigns ! (bin ! (load ! (from ! (fld ! refl (stop !))) (look-in ! 22 (sub ! 0 refl (whole !)))) (load ! (from ! (stop !)) (look ! 14 refl)) tt) (from ! (stop !)) (init ! 12 refl (tt, tt)) $
         rewrite ! 12 (λ (p : ℕ). ‵ (fat fullShare tyPtr l₁₀ 0 (vptr b′ p))) (sym (place-is 24 o′ (f .count))) refl $
         -- the record's place is taken out of the rows, stored to, and put back
         elem-out ! R.the-row (Is R.the-row) (shows 𝓤 H A R.the-row) (LL.vals R.the-type R′.the-laws) (LL.tells R.the-type R′.the-laws) fullShare (y .run) (f .count) (f .row) b′ o′ within (λ _. use1 W (‵ (fat fullShare R′.mir b′ (place 24 o′ (f .count)) (rv (getD (y .run) (f .count) (f .row))))) (W .laws .raw-at fullShare R′.mir b′ (place 24 o′ (f .count)) (rv (getD (y .run) (f .count) (f .row)))) $
-        assigns ! (of-opd ! (load ! (from ! (fld ! refl (stop !))) (look-in ! 22 (sub ! 1 refl (whole !))))) (from ! (hop ! (look ! 14 refl) (stop !))) (store ! 0 refl (LL.lawful R.the-type R′.the-laws 𝓤 H A W .typed (f .row) _ is-row .0)) $
+        assigns ! (of-opd ! (load ! (from ! (fld ! refl (stop !))) (look-in ! 22 (sub ! 2 refl (whole !))))) (from ! (hop ! (look ! 14 refl) (stop !))) (store ! 0 refl (LL.lawful R.the-type R′.the-laws 𝓤 H A W .typed (f .row) _ is-row .0)) $
         use1 W (‵ (cellAt fullShare (R.the-row .mir) (rv (f .row) ∷ []) b′ (place 24 o′ (f .count)))) (W .laws .at-raw fullShare R′.mir b′ (place 24 o′ (f .count)) (rv (f .row))) $
         move ! (1 ∷ []) $ drop ! $ owned ! R.the-row (Is R.the-row) (LL.makes R.the-type R′.the-plain 𝓤 H A) (f .row) _ is-row $ move ! (1 ∷ 0 ∷ []) $ elem-put ! R.the-row fullShare (y .run) (f .count) (f .row) (LL.vals R.the-type R′.the-laws (f .row)) b′ o′ within $
         assigns ! (addr ! (from ! (hop ! (look ! 26 refl) (stop !)))) (from ! (stop !)) (init ! 10 refl (tt, tt)) $
@@ -234,7 +234,7 @@ module _ {M : Type 1} (𝓤 : URA M) (H : Heap 𝓤) (A : Atoms 𝓤) (W : Given
     unfolding afterTurn
     ends y off =
         let f = y .filling in
-        assigns ! (of-opd ! (load ! (from ! (fld ! refl (stop !))) (look-in ! 20 (sub ! 5 refl (whole !))))) (from ! (stop !)) (init ! 16 refl (tt, tt)) $
+        assigns ! (of-opd ! (load ! (from ! (fld ! refl (stop !))) (look-in ! 20 (sub ! 6 refl (whole !))))) (from ! (stop !)) (init ! 16 refl (tt, tt)) $
         rewrite ! 16 (λ (t : Bool). ‵ (fat fullShare tyBool l₈ 0 (vbool t))) off refl $
         leaves-loop ! (load ! (from ! (stop !)) (look ! 16 refl)) $ exec ! C Λ En steps.t-3 (atRet En Post) $
         assigns ! (addr ! (from ! (hop ! (look ! 26 refl) (stop !)))) (from ! (stop !)) (init ! 8 refl (tt, tt)) $

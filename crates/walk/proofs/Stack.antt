@@ -8,13 +8,13 @@ use native.Mathlib.Omega.{arith}
 use lib.Dec.{eqb}
 use lib.ListN.{length, take, getD, set, length-append, length-set}
 use lib.Seq.{getD-take, take-take, take-at, getD-at, take-suc-set}
-use borrow.Author.Tests.{ne-eqb}
 use Rattle.rules.specs.Limits.{most-slots, most-pending, slot-words}
-use Rattle.rules.specs.Tree.{Tree, levels, root}
+use Rattle.rules.specs.Tree.{Tree, leaf, levels, root}
 use Rattle.rules.specs.Steps.{Pending, leave, at-start, each-none, each-more}
 use Rattle.rules.specs.Stored.{Stored, none, live}
 use Rattle.rules.proofs.Tests.{eq-cases}
-use Rattle.walk.specs.Walk.{stack-of, top-of, Pends, Stands, Walkable}
+use Rattle.walk.specs.Walk.{stack-of, Pends, Stands, Walkable}
+use Rattle.walk.specs.Inside.{Fitting}
 
 -- a word for each pending tree
 stack-length : (p : Pending) → length (stack-of p) ≡ length p
@@ -41,22 +41,22 @@ module _ (stack : List ℕ) (n : ℕ) (t : Tree) (p : Pending) (counted : n ≡ 
       ∙ ap (take (n - 1)) on-stack
       ∙ take-at (stack-of p) (root t ∷ []) (n - 1) below
 
--- so it can be read there, and is 0 where none is pending
-pub top-read :
-    {ss stack : List ℕ} {n : ℕ} {p : Pending} → Pends ss stack n p
-    → cond (eqb n 0) 0 (getD stack (n - 1) 0) ≡ top-of p
-top-read {p = []} h = rw (h .counted)
-top-read {stack = stack} {n} {p = t ∷ p} h =
-    let counted = h .counted in
-    rw (ne-eqb n 0 (λ z. omega arith)) (on-top stack n t p counted (h .on-stack))
+module _ {ss stack : List ℕ} {n : ℕ} where
+  -- where none is counted, none is pending
+  pub none-left : {p : Pending} → Pends ss stack n p → n ≡ 0 → Stands ss stack 0 0 p
+  none-left {p = []} h z = record { pends = rw z at h; top-is = refl }
+  none-left {p = t ∷ p} h z = let counted = h .counted in absurd (omega arith)
 
--- a tree, or none, with its root in slot k, that fits on the stack above n others, and so above fewer
-pub record Fitting (ss : List ℕ) (n k : ℕ) (t : Tree) : Type 0 where
-  pub stored : Stored ss t
-  pub slot-is : k ≡ root t
-  pub fits : levels t + n ≤ most-pending
+  -- where some are, the latest can be read from the stack
+  pub some-left : {p : Pending} → Pends ss stack n p → (n ≡ 0 → ⊥) → Stands ss stack n (getD stack (n - 1) 0) p
+  some-left {p = []} h some = absurd (some (h .counted))
+  some-left {p = t ∷ p} h some = record { pends = h; top-is = on-top stack n t p (h .counted) (h .on-stack) }
 
 module _ {ss : List ℕ} {n k : ℕ} {t : Tree} (c : Fitting ss n k t) where
+  -- where it fits, so does none
+  pub none-fits : Fitting ss n 0 leaf
+  none-fits = let fits = c .fits in record { stored = none; slot-is = refl; fits = omega arith }
+
   -- where it is a tree, there is room for its slot
   pub slot-room : (k ≡ 0 → ⊥) → n < most-pending
   slot-room some = go (c .stored) (c .slot-is) (c .fits)

@@ -1,38 +1,30 @@
--- What the functions inside a walk promise each other: what a step finds at a node, and one row of a query.
-use Prim.Native.Nat.{ℕ, _+_, _*_, _≤_}
+-- What the functions inside a walk promise each other: what a step has found at a node, and one row of a query.
+use Prim.Native.Nat.{ℕ, suc, _+_, _*_, _≤_}
 use mathlib.Core.Bool.{cond}
-use mathlib.Core.List.{List, []}
+use mathlib.Core.List.{List}
 use mathlib.Core.Option.{Option, none, some}
 use mathlib.Core.Path.{_≡_}
 use lib.Dec.{leb}
 use lib.ListN.{length, set}
-use Rattle.rules.specs.Limits.{most-slots, slot-words}
-use Rattle.rules.specs.Range.{Range}
-use Rattle.rules.specs.Tree.{Entry, Tree, leaf, node, root}
-use Rattle.rules.specs.Steps.{step-at, passed-over, skips-right}
+use Rattle.rules.specs.Limits.{most-pending}
+use Rattle.rules.specs.Tree.{Entry, Tree, levels, root}
+use Rattle.rules.specs.Steps.{Pending, Step, leave}
 use Rattle.rules.specs.Stored.{Stored}
-use Rattle.walk.specs.declared.Found.{Found}
-use Rattle.walk.specs.Walk.{Hit}
+use Rattle.walk.specs.Walk.{Pends, Hit}
 
--- the node of e, l and r is stored with its root in slot k
-pub record Here (ss : List ℕ) (k : ℕ) (e : Entry) (l r : Tree) : Type 0 where
-  pub room : length ss ≤ slot-words * most-slots
-  pub slot-is : e .slot ≡ k
-  pub stored : Stored ss (node e l r)
+-- a tree, or none, with its root in slot k, that fits on the stack above n others, and so above fewer
+pub record Fitting (ss : List ℕ) (n k : ℕ) (t : Tree) : Type 0 where
+  pub stored : Stored ss t
+  pub slot-is : k ≡ root t
+  pub fits : levels t + n ≤ most-pending
 
--- the left child, where a step leaves it pending
-unfoldable pub left-on : Range → Entry → Tree → Tree → Tree
-left-on q e l r = cond (passed-over q (node e l r)) leaf l
-
--- and the right child
-unfoldable pub right-on : Range → Entry → Tree → Tree → Tree
-right-on q e l r = cond (passed-over q (node e l r)) leaf (cond (skips-right q e) leaf r)
-
--- what was found at a node: the children that a step leaves pending, and what it hits
-pub record Looked (ss : List ℕ) (q : Range) (e : Entry) (l r : Tree) (f : Found) : Type 0 where
-  pub left-is : f .left ≡ root (left-on q e l r)
-  pub right-is : f .right ≡ root (right-on q e l r)
-  pub hit-is : Hit ss (f .hit) (step-at q e l r [] .hit)
+-- What a step has found, which took the latest pending node from above n others: the slots of the children that it leaves
+-- pending, left before right, each a tree or none, which fit on the stack above one more, and what it hit.
+pub data Leads (ss stack : List ℕ) (n left right hit : ℕ) : Step → Type 0 where
+  leads :
+      {l r : Tree} {p : Pending} {o : Option Entry} → Pends ss stack n p → Fitting ss (suc n) left l
+      → Fitting ss (suc n) right r → Hit ss hit o
+      → Leads ss stack n left right hit (record { hit = o; pending = leave r (leave l p) })
 
 -- the run with these three words as its row number n: "A row needs three words of room"
 unfoldable pub with-row : List ℕ → ℕ → ℕ → ℕ → ℕ → List ℕ

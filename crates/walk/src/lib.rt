@@ -4,20 +4,21 @@ use interval::Interval;
 use node::word;
 ghost use mathlib.Core.Path.{_≡_};
 ghost use mathlib.Core.Bool.{cond};
-ghost use mathlib.Core.List.{[]};
+ghost use mathlib.Core.List.{List, []};
 ghost use mathlib.Core.Option.{Option};
-ghost use Prim.Native.Nat.{suc, _+_, _-_, _≤_, _<_};
+ghost use Prim.Native.Nat.{ℕ, suc, _+_, _≤_, _<_};
 ghost use lib.Dec.{eqb};
-ghost use lib.ListN.{length, getD, set};
+ghost use lib.ListN.{length, set};
 ghost use Rattle.rules.specs.Limits.{most-slots, most-pending};
+ghost use Rattle.rules.specs.Range.{range, overlaps};
 ghost use Rattle.rules.specs.Tree.{Entry, Tree};
 ghost use Rattle.rules.specs.Query.{hits};
-ghost use Rattle.rules.specs.Steps.{Pending, step, with-hit};
+ghost use Rattle.rules.specs.Steps.{Pending, Step, step, with-hit};
 ghost use Rattle.rules.specs.Entries.{rows-into};
 ghost use Rattle.rules.specs.Stored.{slot-word, Within};
 ghost use Rattle.interval.specs.Interval.{range-of};
 ghost use Rattle.walk.specs.Walk.{Stands, Hit, Leaves, next, Walkable};
-ghost use Rattle.walk.specs.Inside.{Here, Looked, with-row, with-hit-row};
+ghost use Rattle.walk.specs.Inside.{Leads, with-row, with-hit-row};
 
 // As many nodes as can be pending.
 pub const ROOM: usize = 16;
@@ -29,53 +30,6 @@ pub struct After {
     pub hit: u64,
 }
 
-// What a step finds at a node: the children that it leaves pending and the slot that it hit, each 0 for none.
-struct Found {
-    left: u64,
-    right: u64,
-    hit: u64,
-}
-
-// Looks at the node in slot k.
-fn look(slots: &[u64], k: u64, query: Interval) -> Found
-    requires { ⌜ ((e : Entry) × (l : Tree) × (r : Tree) × Here (now slots) k e l r) ⌝ }
-    ensures { λ f. ⌜ ((e : Entry) (l r : Tree) → Here (now (slots .entry)) k e l r → Looked (now (slots .entry)) (range-of query) e l r f) ⌝ }
-{
-    let start = word(slots, k, 0);
-    let end = word(slots, k, 1);
-    let max = word(slots, k, 3);
-    let links = word(slots, k, 4);
-    if max <= query.start {
-        return Found {
-            left: 0,
-            right: 0,
-            hit: 0,
-        };
-    }
-    let left = node::low(links);
-    if query.end <= start {
-        return Found {
-            left,
-            right: 0,
-            hit: 0,
-        };
-    }
-    let right = node::high(links);
-    let here = Interval { start, end };
-    if here.overlaps(query) {
-        return Found {
-            left,
-            right,
-            hit: k,
-        };
-    }
-    Found {
-        left,
-        right,
-        hit: 0,
-    }
-}
-
 // Leaves the node in slot k pending above `pending` others, if there is one: how many are pending then.
 pub fn leave(stack: &mut [u64; ROOM], pending: usize, k: u64) -> usize
     requires { ⌜ pending < most-pending ⌝ }
@@ -85,25 +39,69 @@ pub fn leave(stack: &mut [u64; ROOM], pending: usize, k: u64) -> usize
     if k == 0 { pending } else { pending + 1 }
 }
 
-// Leaves the node in slot k pending above `pending` others, after a step that hit `hit`: it is the latest then.
-fn leave_last(stack: &mut [u64; ROOM], pending: usize, k: u64, hit: u64) -> After
-    requires { ⌜ pending < most-pending ⌝ }
-    ensures { λ a. ⌜ (now (stack .exit) ≡ set (now (stack .entry)) pending k) × (a ≡ record { pending = suc pending; top = k; hit = hit }) ⌝ }
+// Leaves nothing pending above `below` others, after a step that hit `hit`: the latest of these is the latest then.
+fn leave_none(stack: &[u64; ROOM], below: usize, hit: u64) -> After
+    requires { ⌜ ((ss : List ℕ) × (s : Step) × Leads ss (now stack) below 0 0 hit s) ⌝ }
+    ensures { λ a. ⌜ ((ss : List ℕ) (s : Step) → Leads ss (now (stack .entry)) below 0 0 hit s → Leaves ss (now (stack .entry)) a s) ⌝ }
 {
-    stack[pending] = k;
+    if below == 0 {
+        return After {
+            pending: 0,
+            top: 0,
+            hit,
+        };
+    }
+    let last = below - 1;
     After {
-        pending: pending + 1,
+        pending: below,
+        top: stack[last],
+        hit,
+    }
+}
+
+// Leaves the node in slot k pending above `below` others, if there is one, after a step that hit `hit`.
+fn leave_one(stack: &mut [u64; ROOM], below: usize, k: u64, hit: u64) -> After
+    requires { ⌜ ((ss : List ℕ) × (s : Step) × Leads ss (now stack) below k 0 hit s) ⌝ }
+    ensures { λ a. ⌜ ((ss : List ℕ) (s : Step) → Leads ss (now (stack .entry)) below k 0 hit s → Leaves ss (now (stack .exit)) a s) ⌝ }
+{
+    if k == 0 {
+        return leave_none(stack, below, hit);
+    }
+    stack[below] = k;
+    After {
+        pending: below + 1,
         top: k,
         hit,
     }
 }
 
-// The slot of the latest of `pending` nodes, as it stands on the stack, 0 where none is pending.
-fn top_of(stack: &[u64; ROOM], pending: usize) -> u64
-    requires { ⌜ pending ≤ most-pending ⌝ }
-    ensures { λ k. ⌜ k ≡ cond (eqb pending 0) 0 (getD (now (stack .entry)) (pending - 1) 0) ⌝ }
+// Leaves two nodes pending above `below` others, left before right, each if there is one, after a step that hit `hit`.
+fn leave_both(stack: &mut [u64; ROOM], below: usize, left: u64, right: u64, hit: u64) -> After
+    requires { ⌜ ((ss : List ℕ) × (s : Step) × Leads ss (now stack) below left right hit s) ⌝ }
+    ensures { λ a. ⌜ ((ss : List ℕ) (s : Step) → Leads ss (now (stack .entry)) below left right hit s → Leaves ss (now (stack .exit)) a s) ⌝ }
 {
-    if pending == 0 { 0 } else { stack[pending - 1] }
+    if right == 0 {
+        return leave_one(stack, below, left, hit);
+    }
+    if left == 0 {
+        return leave_one(stack, below, right, hit);
+    }
+    stack[below] = left;
+    stack[below + 1] = right;
+    After {
+        pending: below + 2,
+        top: right,
+        hit,
+    }
+}
+
+// The slot k, where the range in it overlaps the query, else 0.
+fn hit_at(slots: &[u64], k: u64, query: Interval) -> u64
+    requires { ⌜ Within (now slots) k ⌝ }
+    ensures { λ h. ⌜ h ≡ cond (overlaps (range (slot-word (now (slots .entry)) k 0) (slot-word (now (slots .entry)) k 1)) (range-of query)) k 0 ⌝ }
+{
+    let here = node::interval_at(slots, k);
+    if here.overlaps(query) { k } else { 0 }
 }
 
 // One step: takes the latest pending node, which is in slot `top`, and leaves its children that aren't skipped pending,
@@ -126,22 +124,19 @@ pub fn step(
         };
     }
     let below = pending - 1;
-    let found = look(slots, top, query);
-    if found.right != 0 {
-        if found.left != 0 {
-            stack[below] = found.left;
-            return leave_last(stack, pending, found.right, found.hit);
-        }
-        return leave_last(stack, below, found.right, found.hit);
+    let start = word(slots, top, 0);
+    let max = word(slots, top, 3);
+    let links = word(slots, top, 4);
+    if max <= query.start {
+        return leave_none(stack, below, 0);
     }
-    if found.left != 0 {
-        return leave_last(stack, below, found.left, found.hit);
+    let left = node::low(links);
+    if query.end <= start {
+        return leave_one(stack, below, left, 0);
     }
-    After {
-        pending: below,
-        top: top_of(stack, below),
-        hit: found.hit,
-    }
+    let right = node::high(links);
+    let hit = hit_at(slots, top, query);
+    leave_both(stack, below, left, right, hit)
 }
 
 // The next hit: steps until one hits or nothing is pending.

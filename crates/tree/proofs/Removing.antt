@@ -37,9 +37,9 @@ goes : {r : Removed} {ss after : List ℕ} {key : Range} {t : Tree} {e : Entry} 
 goes {e = e} from-one found is done = record { absent = λ h. absurd (omega arith); gone = λ h. ((e, found, is), done) }
 
 -- nothing changed
-stays : {top : ℕ} {ss after : List ℕ} {key : Range} {t : Tree} → find key t ≡ none → after ≡ ss
-    → Deletes (record { top = top; slot = 0 }) ss after key t
-stays found kept = record { absent = λ h. (found, kept); gone = λ h. absurd (h refl) }
+stays : {ss after : List ℕ} {key : Range} {t : Tree} → find key t ≡ none → after ≡ ss
+    → Deletes (record { top = 0; slot = 0 }) ss after key t
+stays found kept = record { absent = λ h. (found, kept, refl); gone = λ h. absurd (h refl) }
 
 -- in no tree there is nothing
 pub from-none : {ss : List ℕ} {k : ℕ} (key : Range) (t : Tree) → k ≡ 0 → Rooted ss k t

@@ -57,9 +57,9 @@ pub record Pair (ss : List ℕ) (a b : ℕ) (t u : Tree) : Type 0 where
   pub right : Standing ss b u
   pub once : (s : ℕ) → times s (slots t) + times s (slots u) ≤ 1
 
--- where 0 is answered for the slot, the range was not there and nothing changed, and else the rules' tree is left, and the
--- slot answered is that of the entry that went
+-- where 0 is answered for the slot, the range was not there, nothing changed and no root is answered, and else the rules'
+-- tree is left, and the slot answered is that of the entry that went
 pub record Deletes (r : Removed) (ss after : List ℕ) (key : Range) (t : Tree) : Type 0 where
-  pub absent : r .slot ≡ 0 → (find key t ≡ none) × (after ≡ ss)
+  pub absent : r .slot ≡ 0 → (find key t ≡ none) × (after ≡ ss) × (r .top ≡ 0)
   pub gone : (r .slot ≡ 0 → ⊥)
       → ((e : Entry) × (find key t ≡ some e) × (e .slot ≡ r .slot)) × Settles (r .top) ss after (levels t) (delete key t)

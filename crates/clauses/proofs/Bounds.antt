@@ -5,8 +5,8 @@ use mathlib.Core.List.{List, [], _∷_, _++_}
 use mathlib.Core.Logic.{⊎-elim}
 use mathlib.Core.Path.{_≡_, refl}
 use borrow.Author.Tests.{ne-eqb}
-use Rattle.rules.specs.Range.{Range, Order, less, same, more, range, order}
-use Rattle.rules.specs.Pool.{is-less, ascending}
+use Rattle.rules.specs.Range.{Range, Order, less, same, more, range, order, is-less}
+use Rattle.rules.specs.Pool.{ascending}
 use Rattle.rules.specs.Stored.{slot-word}
 use Rattle.rules.proofs.Tests.{eq-cases}
 use Rattle.interval.specs.Interval.{range-of, order-of}

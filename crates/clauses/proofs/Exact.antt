@@ -12,7 +12,7 @@ use Rattle.rules.specs.Limits.{half}
 use Rattle.rules.specs.Stored.{slot-word, Within}
 use Rattle.rules.proofs.Tests.{le-cases, eq-cases}
 use Rattle.node.specs.Node.{levels-at, size-at, max-at}
-use Rattle.clauses.specs.Slot.{exact-height, exact-size, exact-max, exact-over}
+use Rattle.clauses.specs.Slot.{exact-height, exact-size, exact-shape, exact-max, exact-over}
 
 -- heights compare as the levels do
 suc-leb : (a b : ℕ) → leb a (b + 1) ≡ leb (suc a) (suc b + 1)
@@ -54,13 +54,10 @@ module _ (ss : List ℕ) (k : ℕ) where
 
   -- over two children
   pub exact-both : {l r : ℕ} → Within ss l → Within ss r
-      → (((leb (slot-word ss l 5 % half) (slot-word ss r 5 % half + 1)
-      && leb (slot-word ss r 5 % half) (slot-word ss l 5 % half + 1))
-      && eqb (slot-word ss k 5 % half) (max (slot-word ss l 5 % half) (slot-word ss r 5 % half) + 1))
-      && eqb (slot-word ss k 5 / half) (slot-word ss l 5 / half + slot-word ss r 5 / half + 1))
+      → exact-shape (slot-word ss k 5) (slot-word ss l 5) (slot-word ss r 5)
       && eqb (slot-word ss k 3) (max (slot-word ss k 1) (max (slot-word ss l 3) (slot-word ss r 3)))
       ≡ exact-over ss k l r
-  unfolding exact-over exact-height exact-size exact-max
+  unfolding exact-shape exact-over exact-height exact-size exact-max
   exact-both {l} {r} left right =
       let a = slot-word ss l 5 % half in
       let b = slot-word ss r 5 % half in

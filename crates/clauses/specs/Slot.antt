@@ -29,6 +29,13 @@ exact-height ss k l r =
 unfoldable pub exact-size : List ℕ → ℕ → ℕ → ℕ → Bool
 exact-size ss k l r = eqb (slot-word ss k 5 / half) (size-at ss l + size-at ss r + 1)
 
+-- both, by the words: the shape w over two children with the shapes l and r
+unfoldable pub exact-shape : ℕ → ℕ → ℕ → Bool
+exact-shape w l r =
+    ((leb (l % half) (r % half + 1) && leb (r % half) (l % half + 1))
+    && eqb (w % half) (max (l % half) (r % half) + 1))
+    && eqb (w / half) (l / half + r / half + 1)
+
 -- "max exact"
 unfoldable pub exact-max : List ℕ → ℕ → ℕ → ℕ → Bool
 exact-max ss k l r = eqb (slot-word ss k 3) (max (slot-word ss k 1) (max (max-at ss l) (max-at ss r)))

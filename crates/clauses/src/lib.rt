@@ -8,7 +8,7 @@ ghost use lib.ListN.{length};
 ghost use Rattle.rules.specs.Limits.{half};
 ghost use Rattle.rules.specs.Pool.{ascending};
 ghost use Rattle.rules.specs.Stored.{slot-word, Within};
-ghost use Rattle.clauses.specs.Slot.{bound, exact-over, fits-here};
+ghost use Rattle.clauses.specs.Slot.{bound, exact-shape, exact-over, fits-here};
 ghost use Rattle.clauses.specs.Slot.{zeros-here, header-here};
 
 // The most levels of a pool's tree.
@@ -71,6 +71,19 @@ fn fits_one(slots: &[u64], k: u64, c: u64) -> bool
         & (node::word(slots, k, 3) == max)
 }
 
+// Whether a shape is exact over two children that have the shapes `left` and `right`, with heights that differ by one at
+// most.
+fn is_shape_over(shape: u64, left: u64, right: u64) -> bool
+    ensures { λ b. ⌜ b ≡ exact-shape shape left right ⌝ }
+{
+    let a = node::low(left);
+    let b = node::low(right);
+    (a <= b + 1)
+        & (b <= a + 1)
+        & (node::low(shape) == interval::larger(a, b) + 1)
+        & (node::high(shape) == node::high(left) + node::high(right) + 1)
+}
+
 // Whether height, size and max in slot k are exact over its two children l and r, whose heights differ by one at most.
 fn fits_both(slots: &[u64], k: u64, l: u64, r: u64) -> bool
     requires { ⌜ Within (now slots) k × Within (now slots) l × Within (now slots) r ⌝ }
@@ -79,13 +92,8 @@ fn fits_both(slots: &[u64], k: u64, l: u64, r: u64) -> bool
     let shape = node::word(slots, k, 5);
     let left = node::word(slots, l, 5);
     let right = node::word(slots, r, 5);
-    let a = node::low(left);
-    let b = node::low(right);
     let below = interval::larger(node::word(slots, l, 3), node::word(slots, r, 3));
-    (a <= b + 1)
-        & (b <= a + 1)
-        & (node::low(shape) == interval::larger(a, b) + 1)
-        & (node::high(shape) == node::high(left) + node::high(right) + 1)
+    is_shape_over(shape, left, right)
         & (node::word(slots, k, 3) == interval::larger(node::word(slots, k, 1), below))
 }
 

@@ -8,7 +8,7 @@ ghost use Rattle.rules.specs.Range.{range};
 ghost use Rattle.rules.specs.Limits.{half};
 ghost use Rattle.rules.specs.Stored.{slot-word, Within, Left};
 ghost use Rattle.interval.specs.Interval.{range-of};
-ghost use Rattle.node.specs.Node.{levels-at, size-at, below, max-at, max-without, factor, with-word, with-links, with-entry, entry, Hung, Slot};
+ghost use Rattle.node.specs.Node.{levels-at, size-at, below, max-at, max-without, factor, with-word, with-words, with-links, entry, Hung, Slot};
 
 // Word i of slot k.
 pub fn word(slots: &[u64], k: u64, i: usize) -> u64
@@ -34,6 +34,16 @@ fn set_word(slots: &mut [u64], k: u64, i: usize, a: u64)
     ensures { λ _. ⌜ now (slots .exit) ≡ with-word (now (slots .entry)) k i a ⌝ }
 {
     slots[(6 * (k - 1)) as usize + i] = a;
+}
+
+// Makes a, b and c three words of slot k, from word i on.
+fn set_words(slots: &mut [u64], k: u64, i: usize, a: u64, b: u64, c: u64)
+    requires { ⌜ Within (now slots) k × (i < 4) ⌝ }
+    ensures { λ _. ⌜ now (slots .exit) ≡ with-words (now (slots .entry)) k i a b c ⌝ }
+{
+    set_word(slots, k, i, a);
+    set_word(slots, k, i + 1, b);
+    set_word(slots, k, i + 2, c);
 }
 
 // Two numbers as the halves of one word.
@@ -79,7 +89,7 @@ pub fn size(slots: &[u64], s: u64) -> u64
 }
 
 // The largest end of what is in slot s, 0 for none.
-pub fn max_end(slots: &[u64], s: u64) -> u64
+fn max_end(slots: &[u64], s: u64) -> u64
     requires { ⌜ 6 * s ≤ length (now slots) ⌝ }
     ensures { λ r. ⌜ r ≡ max-at (now (slots .entry)) s ⌝ }
 {
@@ -137,16 +147,6 @@ fn update_shape(left: u64, right: u64) -> u64
     pack(height, size)
 }
 
-// Makes `max`, `links` and `shape` the last three words of slot k.
-fn set_links(slots: &mut [u64], k: u64, max: u64, links: u64, shape: u64)
-    requires { ⌜ Within (now slots) k ⌝ }
-    ensures { λ _. ⌜ now (slots .exit) ≡ with-links (now (slots .entry)) k max links shape ⌝ }
-{
-    set_word(slots, k, 3, max);
-    set_word(slots, k, 4, links);
-    set_word(slots, k, 5, shape);
-}
-
 // The same as `update`, where what is taken over of the children has been read.
 pub fn update_over(slots: &mut [u64], k: u64, l: u64, r: u64, left: u64, right: u64)
     requires { ⌜ (left ≡ below (now slots) l) × (right ≡ below (now slots) r) × ((e : Entry) × (a : Tree) × (b : Tree) × Hung (now slots) k l r e a b) ⌝ }
@@ -154,7 +154,7 @@ pub fn update_over(slots: &mut [u64], k: u64, l: u64, r: u64, left: u64, right: 
 {
     let max = update_max(slots, k, l, r);
     let shape = update_shape(left, right);
-    set_links(slots, k, max, pack(l, r), shape);
+    set_words(slots, k, 3, max, pack(l, r), shape);
 }
 
 // Makes l and r the children of the entry in slot k, and its height, size and max exact.
@@ -167,34 +167,24 @@ pub fn update(slots: &mut [u64], k: u64, l: u64, r: u64)
     update_over(slots, k, l, r, left, right);
 }
 
-// Makes `start`, `end` and `value` the first three words of slot k.
-fn set_entry(slots: &mut [u64], k: u64, start: u64, end: u64, value: u64)
-    requires { ⌜ Within (now slots) k ⌝ }
-    ensures { λ _. ⌜ now (slots .exit) ≡ with-entry (now (slots .entry)) k start end value ⌝ }
-{
-    set_word(slots, k, 0, start);
-    set_word(slots, k, 1, end);
-    set_word(slots, k, 2, value);
-}
-
 // Makes slot k a node of its own: the range start..end with its value and no children.
 pub fn new(slots: &mut [u64], k: u64, start: u64, end: u64, value: u64)
     requires { ⌜ Slot (now slots) k ⌝ }
     ensures { λ _. ⌜ Left (now (slots .entry)) (now (slots .exit)) k (node (entry k start end value) leaf leaf) ⌝ }
 {
-    set_entry(slots, k, start, end, value);
+    set_words(slots, k, 0, start, end, value);
     update(slots, k, 0, 0);
 }
 
-// One more entry below slot k, with that end: makes `links` its links, its height `more` than it was, and its size and max
-// exact.
+// One more entry below slot k, with that end: makes `links` its links, raises its height by `more`, and makes its size and
+// max exact.
 pub fn gain(slots: &mut [u64], k: u64, links: u64, more: u64, end: u64)
     requires { ⌜ Within (now slots) k × (more < half) × (slot-word (now slots) k 5 + half + more < half * half) ⌝ }
     ensures { λ _. ⌜ now (slots .exit) ≡ with-links (now (slots .entry)) k (max (slot-word (now (slots .entry)) k 3) end) links (slot-word (now (slots .entry)) k 5 + half + more) ⌝ }
 {
     let max = interval::larger(word(slots, k, 3), end);
     let shape = word(slots, k, 5) + pack(more, 1);
-    set_links(slots, k, max, links, shape);
+    set_words(slots, k, 3, max, links, shape);
 }
 
 // The max of slot k over children l and r when an entry with that end has gone from below it: only where that end was
@@ -210,13 +200,13 @@ fn max_without(slots: &[u64], k: u64, l: u64, r: u64, end: u64) -> u64
     max
 }
 
-// One entry less below slot k, with that end: makes `links` its links, its height `less` than it was, and its size and max
-// exact.
+// One entry less below slot k, with that end: makes `links` its links, lowers its height by `less`, and makes its size and
+// max exact.
 pub fn lose(slots: &mut [u64], k: u64, links: u64, less: u64, end: u64)
     requires { ⌜ Within (now slots) k × (6 * (links % half) ≤ length (now slots)) × (6 * (links / half) ≤ length (now slots)) × (less < half) × (half + less ≤ slot-word (now slots) k 5) ⌝ }
     ensures { λ _. ⌜ now (slots .exit) ≡ with-links (now (slots .entry)) k (max-without (now (slots .entry)) k (links % half) (links / half) end) links (slot-word (now (slots .entry)) k 5 - half - less) ⌝ }
 {
     let max = max_without(slots, k, low(links), high(links), end);
     let shape = word(slots, k, 5) - pack(less, 1);
-    set_links(slots, k, max, links, shape);
+    set_words(slots, k, 3, max, links, shape);
 }

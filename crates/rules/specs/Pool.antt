@@ -6,7 +6,7 @@ use mathlib.Core.Path.{_≡_}
 use lib.Dec.{leb, eqb}
 use lib.ListN.{length, getD}
 use Rattle.rules.specs.Limits.{most-slots, header-words, slot-words, half}
-use Rattle.rules.specs.Range.{Order, less, same, more, order}
+use Rattle.rules.specs.Range.{order, is-less}
 use Rattle.rules.specs.Tree.{Entry, Tree, leaf, node, levels, size, max-end, entries, root}
 
 pub record Pool : Type 0 where
@@ -75,11 +75,6 @@ capacity n = (n - header-words) / slot-words
 unfoldable pub right-length : ℕ → Bool
 right-length n =
     eqb n (header-words + slot-words * capacity n) && (leb 1 (capacity n) && leb (capacity n) most-slots)
-
-abbrev pub is-less : Order → Bool
-is-less less = true
-is-less same = false
-is-less more = false
 
 -- "strict order"
 abbrev pub ascending : List Entry → Bool

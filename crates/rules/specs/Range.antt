@@ -1,6 +1,6 @@
 -- Ranges: document 01, "Tree rules", first two sentences, and interval.rs of the crate.
 use Prim.Native.Nat.{ℕ, _+_, min, max}
-use mathlib.Core.Bool.{Bool, cond}
+use mathlib.Core.Bool.{Bool, true, false, cond}
 use mathlib.Core.Option.{Option, none, some}
 use lib.Dec.{ltb, eqb}
 use Rattle.rules.specs.Limits.{beyond}
@@ -35,6 +35,12 @@ choose more a b c = c
 -- "Ranges are ordered by start, then by end. Two are equal when both numbers are."
 unfoldable pub order : Range → Range → Order
 order r s = then (order-numbers (r .start) (s .start)) (order-numbers (r .end) (s .end))
+
+-- whether the first of two comes before the second
+abbrev pub is-less : Order → Bool
+is-less less = true
+is-less same = false
+is-less more = false
 
 -- `is_valid` of the crate: the start is below the end. "Empty and inverted ranges may be stored."
 abbrev pub is-valid : Range → Bool

@@ -71,8 +71,8 @@ fn growing(slots: &[u64], k: u64, a: u64, b: u64) -> Growth
     Growth::Higher
 }
 
-// One more entry below slot k, with that end: makes `a` its child on the side and `b` its child on the other side, its
-// height `more` than it was, and its size and max exact.
+// One more entry below slot k, with that end: makes `a` its child on the side and `b` its child on the other side,
+// raises its height by `more`, and makes its size and max exact.
 fn gain(slots: &mut [u64], side: Side, k: u64, a: u64, b: u64, more: u64, end: u64)
     requires { ⌜ Within (now slots) k × (a < half) × (b < half) × (more < half) × (slot-word (now slots) k 5 + half + more < half * half) ⌝ }
     ensures { λ _. ⌜ now (slots .exit) ≡ with-links (now (slots .entry)) k (max (slot-word (now (slots .entry)) k 3) end) (near (side-of side) a b + half * far (side-of side) a b) (slot-word (now (slots .entry)) k 5 + half + more) ⌝ }
@@ -132,8 +132,8 @@ fn losing(slots: &[u64], k: u64, a: u64, b: u64) -> Loss
     Loss::Same
 }
 
-// One entry less below slot k, with that end: makes `a` its child on the side and `b` its child on the other side, its
-// height `less` than it was, and its size and max exact.
+// One entry less below slot k, with that end: makes `a` its child on the side and `b` its child on the other side,
+// lowers its height by `less`, and makes its size and max exact.
 fn lose(slots: &mut [u64], side: Side, k: u64, a: u64, b: u64, less: u64, end: u64)
     requires { ⌜ Within (now slots) k × (6 * a ≤ length (now slots)) × (6 * b ≤ length (now slots)) × (a < half) × (b < half) × (less < half) × (half + less ≤ slot-word (now slots) k 5) ⌝ }
     ensures { λ _. ⌜ now (slots .exit) ≡ with-links (now (slots .entry)) k (max-without (now (slots .entry)) k (near (side-of side) a b) (far (side-of side) a b) end) (near (side-of side) a b + half * far (side-of side) a b) (slot-word (now (slots .entry)) k 5 - half - less) ⌝ }

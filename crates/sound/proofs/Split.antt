@@ -3,9 +3,9 @@
 use mathlib.Core.Bool.{true}
 use mathlib.Core.List.{List, [], _∷_, _++_, append-assoc}
 use mathlib.Core.Path.{_≡_}
-use Rattle.rules.specs.Range.{order}
+use Rattle.rules.specs.Range.{order, is-less}
 use Rattle.rules.specs.Tree.{Entry}
-use Rattle.rules.specs.Pool.{is-less, ascending}
+use Rattle.rules.specs.Pool.{ascending}
 use Rattle.rules.proofs.Tests.{and-true, true-and}
 use Rattle.rules.proofs.Ascending.{ascending-left, ascending-right}
 

@@ -3,7 +3,8 @@ use Rattle.clauses.proofs.Bounds.{after-none, before-none, compared}
 use mathlib.Core.List.{_++_}
 use mathlib.Core.Path.{_≡_}
 use borrow.Author.Needs.{needs}
-use Rattle.rules.specs.Pool.{is-less, ascending}
+use Rattle.rules.specs.Range.{is-less}
+use Rattle.rules.specs.Pool.{ascending}
 use Rattle.interval.specs.Interval.{order-of}
 use Rattle.interval.specs.declared.Ordering.{Ordering}
 use Rattle.clauses.specs.Slot.{bound}

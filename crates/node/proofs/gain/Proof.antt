@@ -24,8 +24,8 @@ pack-requires c κs = search needs
 add-shape : tie.Need-add-shape
 add-shape c = search needs
 
-set-links-requires : tie.Need-set-links-requires
-set-links-requires c κs = search needs
+set-words-requires : tie.Need-set-words-requires
+set-words-requires c κs = search needs
 
 same-length : tie.Need-same-length
 same-length c = search needs
@@ -38,7 +38,7 @@ returns c =
     omega (arith, packed .before .word2 .ensures, packed .pack .ensures)
     in
     rw
-    (c .before .before .set-links .ensures, shape, packed .before .before .before .larger .ensures, packed .before .before .before .before .word .ensures)
+    (c .before .before .set-words .ensures, shape, packed .before .before .before .larger .ensures, packed .before .before .before .before .word .ensures)
 
 pub gain-spec : {M : Type 1} → statement M
 gain-spec =
@@ -49,6 +49,6 @@ gain-spec =
     word-requires-2
     pack-requires
     add-shape
-    set-links-requires
+    set-words-requires
     same-length
     returns)

@@ -27,8 +27,8 @@ pack-requires c κs = search needs
 sub-shape : tie.Need-sub-shape
 sub-shape c = search needs
 
-set-links-requires : tie.Need-set-links-requires
-set-links-requires c κs = search needs
+set-words-requires : tie.Need-set-words-requires
+set-words-requires c κs = search needs
 
 same-length : tie.Need-same-length
 same-length c = search needs
@@ -42,7 +42,7 @@ returns c =
     omega (arith, packed .before .word .ensures, packed .pack .ensures)
     in
     rw
-    (c .before .before .set-links .ensures, shape, most .max-without .ensures, most .before .high .ensures, most .before .before .low .ensures)
+    (c .before .before .set-words .ensures, shape, most .max-without .ensures, most .before .high .ensures, most .before .before .low .ensures)
 
 pub lose-spec : {M : Type 1} → statement M
 lose-spec =
@@ -54,6 +54,6 @@ lose-spec =
     word-requires
     pack-requires
     sub-shape
-    set-links-requires
+    set-words-requires
     same-length
     returns)

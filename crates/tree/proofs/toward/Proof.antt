@@ -2,9 +2,8 @@
 use mathlib.Core.Bool.{true, false}
 use mathlib.Core.Path.{_≡_, refl, sym, _∙_}
 use borrow.Author.Needs.{needs}
-use Rattle.rules.specs.Range.{Order, less, same, more, range, order}
+use Rattle.rules.specs.Range.{Order, less, same, more, range, order, is-less}
 use Rattle.rules.specs.Balance.{left, right}
-use Rattle.interval.specs.Interval.{is-less}
 use Rattle.tree.specs.Edits.{side-to}
 use Rattle.tree.proofs.toward.Statement.{statement}
 use Rattle.tree.proofs.toward.Tie as tie

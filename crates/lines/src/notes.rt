@@ -91,6 +91,18 @@ pub fn compare_words(notes: &mut Notes, told: &[u64], recorded: &[u64])
     }
 }
 
+// Compares the row after so many others with what is recorded of it. One that is not in the words is a difference.
+pub fn compare_row(notes: &mut Notes, rows: &[u64], done: usize, recorded: &[u64])
+    requires { ⌜ 3 ≤ length (now recorded) ⌝ }
+{
+    if done < rows.len() / 3 {
+        let at = 3 * done;
+        compare_words(notes, &rows[at..at + 3], recorded);
+    } else {
+        count(notes, DIFFERENCES);
+    }
+}
+
 // Notes a number.
 pub fn put(notes: &mut Notes, what: usize, n: u64)
     requires { ⌜ what < 64 ⌝ }

@@ -41,21 +41,11 @@ fn record(pool: &[u64], notes: &notes::Notes, i: usize) -> [u64; 3] {
     [row.start, row.end, row.value]
 }
 
-// Compares the row after those that are done, in the words.
-fn compare_row(rows: &[u64], done: usize, line: &line::Line, notes: &mut notes::Notes) {
-    if done < rows.len() / 3 {
-        let at = 3 * done;
-        notes::compare_words(notes, &rows[at..at + 3], line);
-    } else {
-        notes::count(notes, notes::DIFFERENCES);
-    }
-}
-
 // Compares the next row in both forms.
 pub fn row(pool: &[u64], rows: &[u64], line: &line::Line, notes: &mut notes::Notes) {
     let done = notes[notes::ROWS_DONE] as usize;
     let record = record(pool, notes, done);
     notes::count(notes, notes::ROWS_DONE);
-    compare_row(rows, done, line, notes);
+    notes::compare_row(notes, rows, done, line);
     notes::compare_words(notes, &record, line);
 }

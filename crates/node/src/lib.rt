@@ -1,14 +1,14 @@
 // node.rs of the crate: a node's words in its slot. The slots are lent as the words after the header.
 use interval::Interval;
 ghost use mathlib.Core.Path.{_≡_};
-ghost use Prim.Native.Nat.{_+_, _-_, _*_, _%_, _/_, _≤_, _<_, max};
+ghost use Prim.Native.Nat.{_+_, _*_, _%_, _/_, _≤_, _<_, max};
 ghost use lib.ListN.{length};
 ghost use Rattle.rules.specs.Tree.{Entry, Tree, node, leaf};
 ghost use Rattle.rules.specs.Range.{range};
 ghost use Rattle.rules.specs.Limits.{half};
 ghost use Rattle.rules.specs.Stored.{slot-word, Within, Left};
 ghost use Rattle.interval.specs.Interval.{range-of};
-ghost use Rattle.node.specs.Node.{levels-at, size-at, below, max-at, max-without, factor, with-word, with-words, with-links, entry, Hung, Slot};
+ghost use Rattle.node.specs.Node.{levels-at, size-at, below, max-at, factor, with-words, entry, Hung, Slot};
 
 // Word i of slot k.
 pub fn word(slots: &[u64], k: u64, i: usize) -> u64
@@ -28,22 +28,15 @@ pub fn interval_at(slots: &[u64], k: u64) -> Interval
     Interval { start, end }
 }
 
-// Makes `a` word i of slot k.
-fn set_word(slots: &mut [u64], k: u64, i: usize, a: u64)
-    requires { ⌜ Within (now slots) k × (i < 6) ⌝ }
-    ensures { λ _. ⌜ now (slots .exit) ≡ with-word (now (slots .entry)) k i a ⌝ }
-{
-    slots[(6 * (k - 1)) as usize + i] = a;
-}
-
 // Makes a, b and c three words of slot k, from word i on.
-fn set_words(slots: &mut [u64], k: u64, i: usize, a: u64, b: u64, c: u64)
+pub fn set_words(slots: &mut [u64], k: u64, i: usize, a: u64, b: u64, c: u64)
     requires { ⌜ Within (now slots) k × (i < 4) ⌝ }
     ensures { λ _. ⌜ now (slots .exit) ≡ with-words (now (slots .entry)) k i a b c ⌝ }
 {
-    set_word(slots, k, i, a);
-    set_word(slots, k, i + 1, b);
-    set_word(slots, k, i + 2, c);
+    let at = (6 * (k - 1)) as usize + i;
+    slots[at] = a;
+    slots[at + 1] = b;
+    slots[at + 2] = c;
 }
 
 // Two numbers as the halves of one word.
@@ -118,7 +111,7 @@ pub fn balance_factor(left: u64, right: u64) -> Factor
 }
 
 // The max of slot k, from its end and its children's max.
-fn update_max(slots: &[u64], k: u64, l: u64, r: u64) -> u64
+pub fn update_max(slots: &[u64], k: u64, l: u64, r: u64) -> u64
     requires { ⌜ Within (now slots) k × (6 * l ≤ length (now slots)) × (6 * r ≤ length (now slots)) ⌝ }
     ensures { λ m. ⌜ m ≡ max (slot-word (now (slots .entry)) k 1) (max (max-at (now (slots .entry)) l) (max-at (now (slots .entry)) r)) ⌝ }
 {
@@ -174,39 +167,4 @@ pub fn new(slots: &mut [u64], k: u64, start: u64, end: u64, value: u64)
 {
     set_words(slots, k, 0, start, end, value);
     update(slots, k, 0, 0);
-}
-
-// One more entry below slot k, with that end: makes `links` its links, raises its height by `more`, and makes its size and
-// max exact.
-pub fn gain(slots: &mut [u64], k: u64, links: u64, more: u64, end: u64)
-    requires { ⌜ Within (now slots) k × (more < half) × (slot-word (now slots) k 5 + half + more < half * half) ⌝ }
-    ensures { λ _. ⌜ now (slots .exit) ≡ with-links (now (slots .entry)) k (max (slot-word (now (slots .entry)) k 3) end) links (slot-word (now (slots .entry)) k 5 + half + more) ⌝ }
-{
-    let max = interval::larger(word(slots, k, 3), end);
-    let shape = word(slots, k, 5) + pack(more, 1);
-    set_words(slots, k, 3, max, links, shape);
-}
-
-// The max of slot k over children l and r when an entry with that end has gone from below it: only where that end was
-// the max are the others looked at.
-fn max_without(slots: &[u64], k: u64, l: u64, r: u64, end: u64) -> u64
-    requires { ⌜ Within (now slots) k × (6 * l ≤ length (now slots)) × (6 * r ≤ length (now slots)) ⌝ }
-    ensures { λ m. ⌜ m ≡ max-without (now (slots .entry)) k l r end ⌝ }
-{
-    let max = word(slots, k, 3);
-    if max == end {
-        return update_max(slots, k, l, r);
-    }
-    max
-}
-
-// One entry less below slot k, with that end: makes `links` its links, lowers its height by `less`, and makes its size and
-// max exact.
-pub fn lose(slots: &mut [u64], k: u64, links: u64, less: u64, end: u64)
-    requires { ⌜ Within (now slots) k × (6 * (links % half) ≤ length (now slots)) × (6 * (links / half) ≤ length (now slots)) × (less < half) × (half + less ≤ slot-word (now slots) k 5) ⌝ }
-    ensures { λ _. ⌜ now (slots .exit) ≡ with-links (now (slots .entry)) k (max-without (now (slots .entry)) k (links % half) (links / half) end) links (slot-word (now (slots .entry)) k 5 - half - less) ⌝ }
-{
-    let max = max_without(slots, k, low(links), high(links), end);
-    let shape = word(slots, k, 5) - pack(less, 1);
-    set_words(slots, k, 3, max, links, shape);
 }

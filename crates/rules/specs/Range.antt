@@ -2,7 +2,7 @@
 use Prim.Native.Nat.{ℕ, _+_, min, max}
 use mathlib.Core.Bool.{Bool, true, false, cond}
 use mathlib.Core.Option.{Option, none, some}
-use lib.Dec.{ltb, eqb}
+use lib.Dec.{ltb}
 use Rattle.rules.specs.Limits.{beyond}
 
 -- start..end

@@ -17,12 +17,12 @@ use Rattle.rules.proofs.Counted.{more-beside}
 use Rattle.node.specs.Node.{levels-at, with-links, Hung}
 use Rattle.node.proofs.Trees.{at-root}
 use Rattle.node.proofs.Updated.{updated}
-use Rattle.node.proofs.Counting.{gained}
 use Rattle.balance.proofs.Rotated.{near-child, far-child}
 use Rattle.settle.specs.Settling.{growth, Settles, Gaining}
 use Rattle.settle.specs.declared.Growth.{Growth}
 use Rattle.settle.specs.declared.Growth.the-variants.{Same, Higher, TooHigh}
 use Rattle.settle.proofs.Settled.{still-join, links-read, hung-sides, hung-over, fits, height-read, settles-same, settles-moved}
+use Rattle.settle.proofs.Counting.{gained}
 
 -- how a node of h levels stands whose children have a and b levels now, by the word that says so
 data Stands (h a b : ℕ) : Growth → Type 0 where
@@ -86,9 +86,9 @@ module _ (s : Side) {ss : List ℕ} {k a b end : ℕ} {e : Entry} {t u v : Tree}
   height-was : levels-at ss k ≡ suc (max (levels t) (levels v))
   height-was = height-read s (g .over) b-is (let least = g .least in omega arith)
 
-  -- the shape has room for one more
-  pub room : (more : ℕ) → more ≤ 1 → slot-word ss k 5 + half + more < half * half
-  room more m =
+  -- the shape has room for one more entry and one more level
+  pub room : slot-word ss k 5 + half + 1 < half * half
+  room =
       let au = at-root (hung .left) in
       let bv = at-root (hung .right) in
       let least = g .least in
@@ -122,49 +122,51 @@ module _ (s : Side) {ss : List ℕ} {k a b end : ℕ} {e : Entry} {t u v : Tree}
         rw (levels-join s e t v, ← height-was, ← mended-join s e u v (when-too-high (stand told)))
         (done e u v hung tall)
 
-  -- else: the node stays on top of both, `more` levels higher
-  module _ {more : ℕ} (still : Still (levels t) (levels u) (levels v) more) where
-    joined : balanced-join s e u v ≡ join s e u v
-    joined = still-join s e (record { low = still .low; high = still .high })
+  -- else: the node stays on top of both, `more` levels higher, and these are its links
+  module _ {links : ℕ} (links-is : links ≡ near s a b + half * far s a b) where
+    module _ {more : ℕ} (still : Still (levels t) (levels u) (levels v) more) where
+      joined : balanced-join s e u v ≡ join s e u v
+      joined = still-join s e (record { low = still .low; high = still .high })
 
-    left-joined : Left ss (with-links ss k (max (slot-word ss k 3) end) (near s a b + half * far s a b) (slot-word ss k 5 + half + more)) k
-        (balanced-join s e u v)
-    left-joined =
-        rw joined
-        (updated (hung-sides s hung)
-        (gained end (hung-sides s hung) (near s t v) (far s t v) (g .over .max-was) refl
-        (shape-sides s t u v more (g .over .shape-was) (g .size-is) (still .height))
-        (more-beside s e v (record { size-is = g .size-is; max-is = g .max-is }))))
+      left-joined : Left ss (with-links ss k (max (slot-word ss k 3) end) links (slot-word ss k 5 + half + more)) k
+          (balanced-join s e u v)
+      left-joined =
+          rw joined
+          (updated (hung-sides s hung)
+          (gained end (hung-sides s hung) (near s t v) (far s t v) (g .over .max-was) links-is
+          (shape-sides s t u v more (g .over .shape-was) (g .size-is) (still .height))
+          (more-beside s e v (record { size-is = g .size-is; max-is = g .max-is }))))
 
-    levels-joined : levels (balanced-join s e u v) ≡ levels (join s e t v) + more
-    levels-joined = rw (joined, levels-join s e u v, levels-join s e t v, still .height) (omega arith)
+      levels-joined : levels (balanced-join s e u v) ≡ levels (join s e t v) + more
+      levels-joined = rw (joined, levels-join s e u v, levels-join s e t v, still .height) (omega arith)
 
-  module _ {after : List ℕ} where
-    pub same-up : growth (levels-at ss k) (levels-at ss a) (levels-at ss b) ≡ Same
-        → after ≡ with-links ss k (max (slot-word ss k 3) end) (near s a b + half * far s a b) (slot-word ss k 5 + half + 0)
-        → Settles k ss after (levels (join s e t v)) (balanced-join s e u v)
-    same-up told wrote =
-        let still = still-same (g .over .low) (g .over .high) (g .least) (when-same (stand told)) in
-        settles-same (rw wrote (left-joined still)) (let up = levels-joined still in omega arith)
+    module _ {after : List ℕ} where
+      pub same-up : growth (levels-at ss k) (levels-at ss a) (levels-at ss b) ≡ Same
+          → after ≡ with-links ss k (max (slot-word ss k 3) end) links (slot-word ss k 5 + half + 0)
+          → Settles k ss after (levels (join s e t v)) (balanced-join s e u v)
+      same-up told wrote =
+          let still = still-same (g .over .low) (g .over .high) (g .least) (when-same (stand told)) in
+          settles-same (rw wrote (left-joined still)) (let up = levels-joined still in omega arith)
 
-    pub higher-up : {r : ℕ} → growth (levels-at ss k) (levels-at ss a) (levels-at ss b) ≡ Higher
-        → after ≡ with-links ss k (max (slot-word ss k 3) end) (near s a b + half * far s a b) (slot-word ss k 5 + half + 1)
-        → r ≡ k + half * 1
-        → Settles r ss after (levels (join s e t v)) (balanced-join s e u v)
-    higher-up told wrote is =
-        let stood = when-higher (stand told) in
-        let still = still-higher (g .least) (g .most) (stood .0) (stood .1) in
-        settles-moved (rw wrote (left-joined still)) (λ z. let up = levels-joined still in omega arith) is
+      pub higher-up : {r : ℕ} → growth (levels-at ss k) (levels-at ss a) (levels-at ss b) ≡ Higher
+          → after ≡ with-links ss k (max (slot-word ss k 3) end) links (slot-word ss k 5 + half + 1)
+          → r ≡ k + half * 1
+          → Settles r ss after (levels (join s e t v)) (balanced-join s e u v)
+      higher-up told wrote is =
+          let stood = when-higher (stand told) in
+          let still = still-higher (g .least) (g .most) (stood .0) (stood .1) in
+          settles-moved (rw wrote (left-joined still)) (λ z. let up = levels-joined still in omega arith) is
 
 -- Where the child kept its slot and its height, the links are what they were.
 module _ {s : Side} {ss : List ℕ} {k end : ℕ} {e : Entry} {t u v : Tree} (g : Gaining s ss k (near-child s ss k) end e t u v) where
   pub counts : Within ss k × (0 < half) × (slot-word ss k 5 + half + 0 < half * half)
-  counts = (fits s (g .over) refl .at, omega arith, room s g refl 0 (omega arith))
+  counts = let most = room s g refl in (fits s (g .over) refl .at, omega arith, omega arith)
 
   pub counted : {after : List ℕ} → levels u ≡ levels t
       → after ≡ with-links ss k (max (slot-word ss k 3) end) (slot-word ss k 4) (slot-word ss k 5 + half + 0)
       → Settles k ss after (levels (join s e t v)) (balanced-join s e u v)
   counted level wrote =
       let still = still-level (g .over .low) (g .over .high) level in
-      settles-same (rw (wrote, links-read s _ _ (slot-word ss k 4) refl refl) (left-joined s g refl still))
-      (let up = levels-joined s g refl still in omega arith)
+      let links-were = links-read s _ _ (slot-word ss k 4) refl refl in
+      settles-same (rw wrote (left-joined s g refl links-were still))
+      (let up = levels-joined s g refl links-were still in omega arith)

@@ -3,7 +3,7 @@
 use Prim.Native.Nat.{ℕ, suc, _+_, _-_, _*_, _%_, _/_, _≤_, _<_, max}
 use mathlib.Core.List.{List}
 use mathlib.Core.Logic.{⊎-elim}
-use mathlib.Core.Path.{_≡_, refl, sym, ap, _∙_}
+use mathlib.Core.Path.{_≡_, refl}
 use native.Mathlib.Omega.{arith}
 use lib.ListN.{length}
 use borrow.Author.Tests.{lt-ltb, le-ltb}
@@ -14,46 +14,33 @@ use Rattle.rules.specs.Stored.{slot-word, Within, Left}
 use Rattle.rules.proofs.Tests.{lt-cases}
 use Rattle.rules.proofs.Balanced.{levels-join}
 use Rattle.rules.proofs.Counted.{more-beside}
-use Rattle.node.specs.Node.{levels-at, max-without, with-links, Hung}
+use Rattle.node.specs.Node.{levels-at, with-links, Hung}
 use Rattle.node.proofs.Trees.{at-root}
 use Rattle.node.proofs.Updated.{updated}
-use Rattle.node.proofs.Counting.{lost}
-use Rattle.settle.specs.Settling.{loss, Settles, Losing}
+use Rattle.settle.specs.Settling.{loss, max-without, Settles, Losing}
 use Rattle.settle.specs.declared.Loss.{Loss}
 use Rattle.settle.specs.declared.Loss.the-variants.{Same, Lower, TooLow}
 use Rattle.balance.proofs.Sides.{hung-turned}
 use Rattle.balance.proofs.Rotated.{near-child, far-child}
-use Rattle.settle.proofs.Settled.{still-join, hung-sides, hung-over, fits, height-read, settles-same, settles-moved}
+use Rattle.settle.proofs.Settled.{still-join, links-read, hung-sides, hung-over, fits, height-read, settles-same, settles-moved}
+use Rattle.settle.proofs.Counting.{lost}
 
 -- the halves of links to the two sides
-pub links-low : (s : Side) (a b : ℕ) → a < half → b < half → (near s a b + half * far s a b) % half ≡ near s a b
+links-low : (s : Side) (a b : ℕ) → a < half → b < half → (near s a b + half * far s a b) % half ≡ near s a b
 links-low left a b p q = omega arith
 links-low right a b p q = omega arith
 
-pub links-high : (s : Side) (a b : ℕ) → a < half → b < half → (near s a b + half * far s a b) / half ≡ far s a b
+links-high : (s : Side) (a b : ℕ) → a < half → b < half → (near s a b + half * far s a b) / half ≡ far s a b
 links-high left a b p q = omega arith
 links-high right a b p q = omega arith
 
-pub inside-near : (s : Side) (a b n : ℕ) → slot-words * a ≤ n → slot-words * b ≤ n → slot-words * near s a b ≤ n
+inside-near : (s : Side) (a b n : ℕ) → slot-words * a ≤ n → slot-words * b ≤ n → slot-words * near s a b ≤ n
 inside-near left a b n p q = p
 inside-near right a b n p q = q
 
-pub inside-far : (s : Side) (a b n : ℕ) → slot-words * a ≤ n → slot-words * b ≤ n → slot-words * far s a b ≤ n
+inside-far : (s : Side) (a b n : ℕ) → slot-words * a ≤ n → slot-words * b ≤ n → slot-words * far s a b ≤ n
 inside-far left a b n p q = q
 inside-far right a b n p q = p
-
--- the sides of what is on the sides are the two themselves
-near-back : (s : Side) (a b x y : ℕ) → a ≡ near s x y → b ≡ far s x y → x ≡ near s a b
-near-back left a b x y p q = sym p
-near-back right a b x y p q = sym q
-
-far-back : (s : Side) (a b x y : ℕ) → a ≡ near s x y → b ≡ far s x y → y ≡ far s a b
-far-back left a b x y p q = sym q
-far-back right a b x y p q = sym p
-
--- a word is its halves
-apart : (w : ℕ) → w ≡ w % half + half * (w / half)
-apart w = omega arith
 
 -- how a node of h levels stands whose children have a and b levels now, by the word that says so
 data Stands (h a b : ℕ) : Loss → Type 0 where
@@ -138,75 +125,78 @@ module _ (s : Side) {ss : List ℕ} {k a b end : ℕ} {e : Entry} {t u v : Tree}
     pub mends : (slot-words * k ≤ length ss) × ((f : Entry) × (x : Tree) × (y : Tree) × Hung ss k b a f x y × (1 ≤ levels x))
     mends = (fits s (g .over) b-is .at .inside, (e, v, u, hung-turned hung, tall))
 
-    pub mended-down : {r : ℕ} {after : List ℕ}
-        → ((f : Entry) (x y : Tree) → Hung ss k b a f x y → 1 ≤ levels x → Settles r ss after (levels-at ss k) (mend (other s) f x y))
+    pub mended-down : {turned : Side} {r : ℕ} {after : List ℕ} → turned ≡ other s
+        → ((f : Entry) (x y : Tree) → Hung ss k b a f x y → 1 ≤ levels x → Settles r ss after (levels-at ss k) (mend turned f x y))
         → Settles r ss after (levels (join s e t v)) (balanced-join s e u v)
-    mended-down done =
+    mended-down is done =
         rw (levels-join s e t v, ← height-was, ← mended-other s e u v (when-too-low (stand told)))
-        (done e v u (hung-turned hung) tall)
+        (rw is at (done e v u (hung-turned hung) tall))
 
-  -- else: the node stays on top of both, `less` levels lower
-  module _ {less : ℕ} (still : Still (levels t) (levels u) (levels v) less) where
-    joined : balanced-join s e u v ≡ join s e u v
-    joined = still-join s e (record { low = still .low; high = still .high })
+  -- else: the node stays on top of both, `less` levels lower, and these are its links
+  module _ {links : ℕ} (links-is : links ≡ near s a b + half * far s a b) where
+    low-is : links % half ≡ near s a b
+    low-is = let ok = fits s (g .over) b-is in rw links-is (links-low s a b (ok .left-small) (ok .right-small))
 
-    left-joined : Left ss (with-links ss k (max-without ss k (near s a b) (far s a b) end) (near s a b + half * far s a b) (slot-word ss k 5 - half - less)) k
-        (balanced-join s e u v)
-    left-joined =
-        rw joined
-        (updated (hung-sides s hung)
-        (lost end (hung-sides s hung) (near s t v) (far s t v) (g .over .max-was) refl
-        (shape-sides s t u v less (g .over .shape-was) (g .size-is) (still .height))
-        (more-beside s e v (record { size-is = g .size-is; max-is = g .max-is }))))
+    high-is : links / half ≡ far s a b
+    high-is = let ok = fits s (g .over) b-is in rw links-is (links-high s a b (ok .left-small) (ok .right-small))
 
-    levels-joined : levels (balanced-join s e u v) + less ≡ levels (join s e t v)
-    levels-joined = let h = still .height in rw (joined, levels-join s e u v, levels-join s e t v) (omega arith)
+    -- what taking the entry off is given
+    pub loses : {less : ℕ} → less ≤ 1
+        → Within ss k × (slot-words * (links % half) ≤ length ss) × (slot-words * (links / half) ≤ length ss)
+        × (less < half) × (half + less ≤ slot-word ss k 5)
+    loses few =
+        let ok = fits s (g .over) b-is in
+        let most = room in
+        rw (low-is, high-is)
+        (ok .at, inside-near s a b _ (ok .left-in) (ok .right-in), inside-far s a b _ (ok .left-in) (ok .right-in), omega arith, omega arith)
 
-  module _ {after : List ℕ} where
-    pub same-down : loss (levels-at ss k) (levels-at ss a) (levels-at ss b) ≡ Same
-        → after ≡ with-links ss k (max-without ss k (near s a b) (far s a b) end) (near s a b + half * far s a b) (slot-word ss k 5 - half - 0)
-        → Settles k ss after (levels (join s e t v)) (balanced-join s e u v)
-    same-down told wrote =
-        let stood = when-same (stand told) in
-        let still = still-same (g .over .low) (g .most) (stood .0) (stood .1) in
-        settles-same (rw wrote (left-joined still)) (let up = levels-joined still in omega arith)
+    module _ {less : ℕ} (still : Still (levels t) (levels u) (levels v) less) where
+      joined : balanced-join s e u v ≡ join s e u v
+      joined = still-join s e (record { low = still .low; high = still .high })
 
-    pub lower-down : {r : ℕ} → loss (levels-at ss k) (levels-at ss a) (levels-at ss b) ≡ Lower
-        → after ≡ with-links ss k (max-without ss k (near s a b) (far s a b) end) (near s a b + half * far s a b) (slot-word ss k 5 - half - 1)
-        → r ≡ k + half * 1
-        → Settles r ss after (levels (join s e t v)) (balanced-join s e u v)
-    lower-down told wrote is =
-        let stood = when-lower (stand told) in
-        let still = still-lower (g .over .low) (g .most) (g .least) (stood .0) (stood .1) in
-        settles-moved (rw wrote (left-joined still)) (λ z. let up = levels-joined still in omega arith) is
+      left-joined : Left ss (with-links ss k (max-without ss k (links % half) (links / half) end) links (slot-word ss k 5 - half - less)) k
+          (balanced-join s e u v)
+      left-joined =
+          rw (joined, low-is, high-is)
+          (updated (hung-sides s hung)
+          (lost end (hung-sides s hung) (near s t v) (far s t v) (g .over .max-was) links-is
+          (shape-sides s t u v less (g .over .shape-was) (g .size-is) (still .height))
+          (more-beside s e v (record { size-is = g .size-is; max-is = g .max-is }))))
+
+      levels-joined : levels (balanced-join s e u v) + less ≡ levels (join s e t v)
+      levels-joined = let h = still .height in rw (joined, levels-join s e u v, levels-join s e t v) (omega arith)
+
+    module _ {after : List ℕ} where
+      pub same-down : loss (levels-at ss k) (levels-at ss a) (levels-at ss b) ≡ Same
+          → after ≡ with-links ss k (max-without ss k (links % half) (links / half) end) links (slot-word ss k 5 - half - 0)
+          → Settles k ss after (levels (join s e t v)) (balanced-join s e u v)
+      same-down told wrote =
+          let stood = when-same (stand told) in
+          let still = still-same (g .over .low) (g .most) (stood .0) (stood .1) in
+          settles-same (rw wrote (left-joined still)) (let up = levels-joined still in omega arith)
+
+      pub lower-down : {r : ℕ} → loss (levels-at ss k) (levels-at ss a) (levels-at ss b) ≡ Lower
+          → after ≡ with-links ss k (max-without ss k (links % half) (links / half) end) links (slot-word ss k 5 - half - 1)
+          → r ≡ k + half * 1
+          → Settles r ss after (levels (join s e t v)) (balanced-join s e u v)
+      lower-down told wrote is =
+          let stood = when-lower (stand told) in
+          let still = still-lower (g .over .low) (g .most) (g .least) (stood .0) (stood .1) in
+          settles-moved (rw wrote (left-joined still)) (λ z. let up = levels-joined still in omega arith) is
 
 -- Where the child kept its slot and its height, the links are what they were.
 module _ {s : Side} {ss : List ℕ} {k end : ℕ} {e : Entry} {t u v : Tree} (g : Losing s ss k (near-child s ss k) end e t u v) where
-  pub discounts : Within ss k × (slot-words * (slot-word ss k 4 % half) ≤ length ss) × (slot-words * (slot-word ss k 4 / half) ≤ length ss) × (0 < half) × (half + 0 ≤ slot-word ss k 5)
-  discounts =
-      let ok = fits s (g .over) refl in
-      let most = room s g refl in
-      let x = slot-word ss k 4 % half in
-      let y = slot-word ss k 4 / half in (
-        ok .at,
-        rw (near-back s _ _ x y refl refl) (inside-near s _ _ (length ss) (ok .left-in) (ok .right-in)),
-        rw (far-back s _ _ x y refl refl) (inside-far s _ _ (length ss) (ok .left-in) (ok .right-in)),
-        omega arith,
-        omega arith,
-      )
+  links-were : slot-word ss k 4 ≡ near s (near-child s ss k) (far-child s ss k) + half * far s (near-child s ss k) (far-child s ss k)
+  links-were = links-read s _ _ (slot-word ss k 4) refl refl
+
+  pub discounts : Within ss k × (slot-words * (slot-word ss k 4 % half) ≤ length ss) × (slot-words * (slot-word ss k 4 / half) ≤ length ss)
+      × (0 < half) × (half + 0 ≤ slot-word ss k 5)
+  discounts = loses s g refl links-were (omega arith)
 
   pub discounted : {after : List ℕ} → levels u ≡ levels t
       → after ≡ with-links ss k (max-without ss k (slot-word ss k 4 % half) (slot-word ss k 4 / half) end) (slot-word ss k 4) (slot-word ss k 5 - half - 0)
       → Settles k ss after (levels (join s e t v)) (balanced-join s e u v)
   discounted level wrote =
       let still = still-level (g .over .low) (g .over .high) level in
-      let up = levels-joined s g refl still in
-      settles-same (rw (wrote ∙ same) (left-joined s g refl still)) (omega arith)
-    where
-      same : with-links ss k (max-without ss k (slot-word ss k 4 % half) (slot-word ss k 4 / half) end) (slot-word ss k 4) (slot-word ss k 5 - half - 0)
-          ≡ with-links ss k (max-without ss k (near s (near-child s ss k) (far-child s ss k)) (far s (near-child s ss k) (far-child s ss k)) end) (near s (near-child s ss k) (far-child s ss k) + half * far s (near-child s ss k) (far-child s ss k)) (slot-word ss k 5 - half - 0)
-      same =
-          let x = slot-word ss k 4 % half in
-          let y = slot-word ss k 4 / half in
-          rw (← near-back s (near-child s ss k) (far-child s ss k) x y refl refl, ← far-back s (near-child s ss k) (far-child s ss k) x y refl refl)
-          (ap (λ (w : ℕ). with-links ss k (max-without ss k x y end) w (slot-word ss k 5 - half - 0)) (apart (slot-word ss k 4)))
+      let up = levels-joined s g refl links-were still in
+      settles-same (rw wrote (left-joined s g refl links-were still)) (omega arith)

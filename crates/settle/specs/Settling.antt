@@ -8,7 +8,7 @@ use Rattle.rules.specs.Limits.{half}
 use Rattle.rules.specs.Tree.{Entry, Tree, levels, size, max-end}
 use Rattle.rules.specs.Balance.{Side, far, join}
 use Rattle.rules.specs.Stored.{slot-word, Left}
-use Rattle.node.specs.Node.{Hung}
+use Rattle.node.specs.Node.{max-at, Hung}
 use Rattle.settle.specs.declared.Growth.{Growth}
 use Rattle.settle.specs.declared.Growth.the-variants.{Same, Higher, TooHigh}
 use Rattle.settle.specs.declared.Loss.{Loss}
@@ -21,6 +21,11 @@ growth h a b = cond (ltb a h) Same (cond (ltb (suc b) a) TooHigh Higher)
 -- and how one that has lost an entry stands
 abbrev pub loss : ℕ → ℕ → ℕ → Loss
 loss h a b = cond (ltb (suc a) b) TooLow (cond (ltb (suc (max a b)) h) Lower Stays)
+
+-- the max of slot k, over children l and r, when an entry with that end has gone: the old one, unless it was that end
+abbrev pub max-without : List ℕ → ℕ → ℕ → ℕ → ℕ → ℕ
+max-without ss k l r end =
+    cond (eqb (slot-word ss k 3) end) (max (slot-word ss k 1) (max (max-at ss l) (max-at ss r))) (slot-word ss k 3)
 
 -- 1 for two numbers that are different, and 0 else
 abbrev pub differs : ℕ → ℕ → ℕ

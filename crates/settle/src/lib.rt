@@ -10,9 +10,9 @@ ghost use Rattle.rules.specs.Balance as sides;
 ghost use Rattle.rules.specs.Balance.{join, mend, balanced-join, near, far};
 ghost use Rattle.rules.specs.Limits.{half};
 ghost use Rattle.rules.specs.Stored.{slot-word, Within};
-ghost use Rattle.node.specs.Node.{levels-at, max-without, with-links, Hung};
+ghost use Rattle.node.specs.Node.{levels-at, with-links, Hung};
 ghost use Rattle.balance.specs.Sides.{side-of};
-ghost use Rattle.settle.specs.Settling.{growth, loss, differs, Settles, Gaining, Losing};
+ghost use Rattle.settle.specs.Settling.{growth, loss, differs, max-without, Settles, Gaining, Losing};
 
 // The slot of a root, with 1 as the high half where its height is another one than `height`.
 pub fn marked(slots: &[u64], root: u64, height: u64) -> u64
@@ -71,13 +71,15 @@ fn growing(slots: &[u64], k: u64, a: u64, b: u64) -> Growth
     Growth::Higher
 }
 
-// One more entry below slot k, with that end: makes `a` its child on the side and `b` its child on the other side,
-// raises its height by `more`, and makes its size and max exact.
-fn gain(slots: &mut [u64], side: Side, k: u64, a: u64, b: u64, more: u64, end: u64)
-    requires { ⌜ Within (now slots) k × (a < half) × (b < half) × (more < half) × (slot-word (now slots) k 5 + half + more < half * half) ⌝ }
-    ensures { λ _. ⌜ now (slots .exit) ≡ with-links (now (slots .entry)) k (max (slot-word (now (slots .entry)) k 3) end) (near (side-of side) a b + half * far (side-of side) a b) (slot-word (now (slots .entry)) k 5 + half + more) ⌝ }
+// One more entry below slot k, with that end: makes `links` its links, raises its height by `more`, and makes its size and
+// max exact.
+fn gain(slots: &mut [u64], k: u64, links: u64, more: u64, end: u64)
+    requires { ⌜ Within (now slots) k × (more < half) × (slot-word (now slots) k 5 + half + more < half * half) ⌝ }
+    ensures { λ _. ⌜ now (slots .exit) ≡ with-links (now (slots .entry)) k (max (slot-word (now (slots .entry)) k 3) end) links (slot-word (now (slots .entry)) k 5 + half + more) ⌝ }
 {
-    node::gain(slots, k, links_to(side, a, b), more, end);
+    let max = interval::larger(node::word(slots, k, 3), end);
+    let shape = node::word(slots, k, 5) + node::pack(more, 1);
+    node::set_words(slots, k, 3, max, links, shape);
 }
 
 // Slot k after an insert on the side, where `a` is now its child, with one more entry, which has that end. Answers the
@@ -90,11 +92,11 @@ pub fn raised(slots: &mut [u64], side: Side, k: u64, a: u64, end: u64) -> u64
     match growing(slots, k, a, b) {
         Growth::TooHigh => mend_from(slots, side, k, a, b),
         Growth::Same => {
-            gain(slots, side, k, a, b, 0, end);
+            gain(slots, k, links_to(side, a, b), 0, end);
             k
         }
         Growth::Higher => {
-            gain(slots, side, k, a, b, 1, end);
+            gain(slots, k, links_to(side, a, b), 1, end);
             node::pack(k, 1)
         }
     }
@@ -105,7 +107,7 @@ pub fn count(slots: &mut [u64], k: u64, end: u64)
     requires { ⌜ ((s : sides.Side) × (e : Entry) × (t : Tree) × (u : Tree) × (v : Tree) × Gaining s (now slots) k (near s (slot-word (now slots) k 4 % half) (slot-word (now slots) k 4 / half)) end e t u v × (levels u ≡ levels t)) ⌝ }
     ensures { λ _. ⌜ ((s : sides.Side) (e : Entry) (t u v : Tree) → Gaining s (now (slots .entry)) k (near s (slot-word (now (slots .entry)) k 4 % half) (slot-word (now (slots .entry)) k 4 / half)) end e t u v → levels u ≡ levels t → Settles k (now (slots .entry)) (now (slots .exit)) (levels (join s e t v)) (balanced-join s e u v)) ⌝ }
 {
-    node::gain(slots, k, node::word(slots, k, 4), 0, end);
+    gain(slots, k, node::word(slots, k, 4), 0, end);
 }
 
 // How a node stands when its child on a side has one entry less: as high as before, one lower, or with that child too
@@ -132,13 +134,28 @@ fn losing(slots: &[u64], k: u64, a: u64, b: u64) -> Loss
     Loss::Same
 }
 
-// One entry less below slot k, with that end: makes `a` its child on the side and `b` its child on the other side,
-// lowers its height by `less`, and makes its size and max exact.
-fn lose(slots: &mut [u64], side: Side, k: u64, a: u64, b: u64, less: u64, end: u64)
-    requires { ⌜ Within (now slots) k × (6 * a ≤ length (now slots)) × (6 * b ≤ length (now slots)) × (a < half) × (b < half) × (less < half) × (half + less ≤ slot-word (now slots) k 5) ⌝ }
-    ensures { λ _. ⌜ now (slots .exit) ≡ with-links (now (slots .entry)) k (max-without (now (slots .entry)) k (near (side-of side) a b) (far (side-of side) a b) end) (near (side-of side) a b + half * far (side-of side) a b) (slot-word (now (slots .entry)) k 5 - half - less) ⌝ }
+// The max of slot k over children l and r when an entry with that end has gone from below it: only where that end was
+// the max are the others looked at.
+fn max_without(slots: &[u64], k: u64, l: u64, r: u64, end: u64) -> u64
+    requires { ⌜ Within (now slots) k × (6 * l ≤ length (now slots)) × (6 * r ≤ length (now slots)) ⌝ }
+    ensures { λ m. ⌜ m ≡ max-without (now (slots .entry)) k l r end ⌝ }
 {
-    node::lose(slots, k, links_to(side, a, b), less, end);
+    let max = node::word(slots, k, 3);
+    if max == end {
+        return node::update_max(slots, k, l, r);
+    }
+    max
+}
+
+// One entry less below slot k, with that end: makes `links` its links, lowers its height by `less`, and makes its size and
+// max exact.
+fn lose(slots: &mut [u64], k: u64, links: u64, less: u64, end: u64)
+    requires { ⌜ Within (now slots) k × (6 * (links % half) ≤ length (now slots)) × (6 * (links / half) ≤ length (now slots)) × (less < half) × (half + less ≤ slot-word (now slots) k 5) ⌝ }
+    ensures { λ _. ⌜ now (slots .exit) ≡ with-links (now (slots .entry)) k (max-without (now (slots .entry)) k (links % half) (links / half) end) links (slot-word (now (slots .entry)) k 5 - half - less) ⌝ }
+{
+    let max = max_without(slots, k, node::low(links), node::high(links), end);
+    let shape = node::word(slots, k, 5) - node::pack(less, 1);
+    node::set_words(slots, k, 3, max, links, shape);
 }
 
 // Slot k after a removal on the side, where `a` is now its child, with one entry less, which had that end. Answers the
@@ -152,11 +169,11 @@ pub fn lowered(slots: &mut [u64], side: Side, k: u64, a: u64, end: u64) -> u64
     match losing(slots, k, a, b) {
         Loss::TooLow => mend_from(slots, turned, k, b, a),
         Loss::Same => {
-            lose(slots, side, k, a, b, 0, end);
+            lose(slots, k, links_to(side, a, b), 0, end);
             k
         }
         Loss::Lower => {
-            lose(slots, side, k, a, b, 1, end);
+            lose(slots, k, links_to(side, a, b), 1, end);
             node::pack(k, 1)
         }
     }
@@ -167,5 +184,5 @@ pub fn discount(slots: &mut [u64], k: u64, end: u64)
     requires { ⌜ ((s : sides.Side) × (e : Entry) × (t : Tree) × (u : Tree) × (v : Tree) × Losing s (now slots) k (near s (slot-word (now slots) k 4 % half) (slot-word (now slots) k 4 / half)) end e t u v × (levels u ≡ levels t)) ⌝ }
     ensures { λ _. ⌜ ((s : sides.Side) (e : Entry) (t u v : Tree) → Losing s (now (slots .entry)) k (near s (slot-word (now (slots .entry)) k 4 % half) (slot-word (now (slots .entry)) k 4 / half)) end e t u v → levels u ≡ levels t → Settles k (now (slots .entry)) (now (slots .exit)) (levels (join s e t v)) (balanced-join s e u v)) ⌝ }
 {
-    node::lose(slots, k, node::word(slots, k, 4), 0, end);
+    lose(slots, k, node::word(slots, k, 4), 0, end);
 }

@@ -10,7 +10,7 @@ use Rattle.settle.specs.declared.Loss.{Loss}
 use Rattle.balance.proofs.Sides.{far-from-other}
 use Rattle.balance.proofs.Rotated.{far-child}
 use Rattle.settle.proofs.Settled.{fits, small}
-use Rattle.settle.proofs.Lost.{room, mends, mended-down, same-down, lower-down}
+use Rattle.settle.proofs.Lost.{loses, mends, mended-down, same-down, lower-down}
 use Rattle.settle.proofs.lowered.Statement.{statement}
 use Rattle.settle.proofs.lowered.Tie as tie
 
@@ -54,26 +54,34 @@ mend-from-requires c κs =
 enum-told-2 : tie.Need-enum-told-2
 enum-told-2 c = search needs
 
-lose-requires : tie.Need-lose-requires
-lose-requires c κs =
+links-to-requires : tie.Need-links-to-requires
+links-to-requires c κs =
     let d = c .before .before .before .before .before in
     let ok = fits (side d) (start d .pre .4 .over) (other-is d) in
-    let most = room (side d) (start d .pre .4) (other-is d) in
-    (ok .at, ok .left-in, ok .right-in, ok .left-small, ok .right-small, omega arith, omega arith)
+    (ok .left-small, ok .right-small)
+
+lose-requires : tie.Need-lose-requires
+lose-requires c κs =
+    let d = c .before .before .before .before .before .before in
+    loses (side d) (start d .pre .4) (other-is d) (c .links-to .ensures) (omega arith)
 
 enum-told-3 : tie.Need-enum-told-3
 enum-told-3 c = search needs
 
-lose-requires-2 : tie.Need-lose-requires-2
-lose-requires-2 c κs =
+links-to-requires-2 : tie.Need-links-to-requires-2
+links-to-requires-2 c κs =
     let d = c .before .before .before .before .before in
     let ok = fits (side d) (start d .pre .4 .over) (other-is d) in
-    let most = room (side d) (start d .pre .4) (other-is d) in
-    (ok .at, ok .left-in, ok .right-in, ok .left-small, ok .right-small, omega arith, omega arith)
+    (ok .left-small, ok .right-small)
+
+lose-requires-2 : tie.Need-lose-requires-2
+lose-requires-2 c κs =
+    let d = c .before .before .before .before .before .before in
+    loses (side d) (start d .pre .4) (other-is d) (c .links-to2 .ensures) (omega arith)
 
 pack-requires : tie.Need-pack-requires
 pack-requires c κs =
-    let d = c .before .before .before .before .before .before .before .before in
+    let d = c .before .before .before .before .before .before .before .before .before in
     (small (side d) (start d .pre .4 .over) (other-is d), omega arith)
 
 same-length : tie.Need-same-length
@@ -84,16 +92,16 @@ returns c e t u v g =
     let stood = c .before .before .before .before .before .before in
     let d = stood .before .before in
     mended-down (side d) g (other-is d) (told stood (c .before .before .before .before .enum-told .given .1))
-    (rw (d .before .before .opposite .ensures) at (c .before .before .mend-from .ensures))
+    (d .before .before .opposite .ensures) (c .before .before .mend-from .ensures)
 
 same-length-2 : tie.Need-same-length-2
 same-length-2 c = search needs
 
 returns-2 : tie.Need-returns-2
 returns-2 c e t u v g =
-    let stood = c .before .before .before .before .before .before in
+    let stood = c .before .before .before .before .before .before .before in
     let d = stood .before .before in
-    same-down (side d) g (other-is d) (told stood (c .before .before .before .before .enum-told2 .given .1))
+    same-down (side d) g (other-is d) (c .before .before .before .links-to .ensures) (told stood (c .before .before .before .before .before .enum-told2 .given .1))
     (c .before .before .lose .ensures)
 
 same-length-3 : tie.Need-same-length-3
@@ -101,9 +109,9 @@ same-length-3 c = search needs
 
 returns-3 : tie.Need-returns-3
 returns-3 c e t u v g =
-    let stood = c .before .before .before .before .before .before .before in
+    let stood = c .before .before .before .before .before .before .before .before in
     let d = stood .before .before in
-    lower-down (side d) g (other-is d) (told stood (c .before .before .before .before .before .enum-told3 .given .1))
+    lower-down (side d) g (other-is d) (c .before .before .before .before .links-to2 .ensures) (told stood (c .before .before .before .before .before .before .enum-told3 .given .1))
     (c .before .before .before .lose2 .ensures) (c .pack .ensures)
 
 pub lowered-spec : {M : Type 1} → statement M
@@ -116,8 +124,10 @@ lowered-spec =
     enum-told
     mend-from-requires
     enum-told-2
+    links-to-requires
     lose-requires
     enum-told-3
+    links-to-requires-2
     lose-requires-2
     pack-requires
     same-length

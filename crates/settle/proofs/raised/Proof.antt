@@ -54,24 +54,36 @@ mend-from-requires c κs =
 enum-told-2 : tie.Need-enum-told-2
 enum-told-2 c = search needs
 
-gain-requires : tie.Need-gain-requires
-gain-requires c κs =
+links-to-requires : tie.Need-links-to-requires
+links-to-requires c κs =
     let d = c .before .before .before .before .before in
     let ok = fits (side d) (start d .pre .4 .over) (other-is d) in
-    (ok .at, ok .left-small, ok .right-small, omega arith, room (side d) (start d .pre .4) (other-is d) 0 (omega arith))
+    (ok .left-small, ok .right-small)
+
+gain-requires : tie.Need-gain-requires
+gain-requires c κs =
+    let d = c .before .before .before .before .before .before in
+    let most = room (side d) (start d .pre .4) (other-is d) in
+    (fits (side d) (start d .pre .4 .over) (other-is d) .at, omega arith, omega (arith, most))
 
 enum-told-3 : tie.Need-enum-told-3
 enum-told-3 c = search needs
 
-gain-requires-2 : tie.Need-gain-requires-2
-gain-requires-2 c κs =
+links-to-requires-2 : tie.Need-links-to-requires-2
+links-to-requires-2 c κs =
     let d = c .before .before .before .before .before in
     let ok = fits (side d) (start d .pre .4 .over) (other-is d) in
-    (ok .at, ok .left-small, ok .right-small, omega arith, room (side d) (start d .pre .4) (other-is d) 1 (omega arith))
+    (ok .left-small, ok .right-small)
+
+gain-requires-2 : tie.Need-gain-requires-2
+gain-requires-2 c κs =
+    let d = c .before .before .before .before .before .before in
+    let most = room (side d) (start d .pre .4) (other-is d) in
+    (fits (side d) (start d .pre .4 .over) (other-is d) .at, omega arith, omega (arith, most))
 
 pack-requires : tie.Need-pack-requires
 pack-requires c κs =
-    let d = c .before .before .before .before .before .before .before .before in
+    let d = c .before .before .before .before .before .before .before .before .before in
     (small (side d) (start d .pre .4 .over) (other-is d), omega arith)
 
 same-length : tie.Need-same-length
@@ -89,9 +101,9 @@ same-length-2 c = search needs
 
 returns-2 : tie.Need-returns-2
 returns-2 c e t u v g =
-    let grows = c .before .before .before .before .before .before in
+    let grows = c .before .before .before .before .before .before .before in
     let d = grows .before .before in
-    same-up (side d) g (other-is d) (told grows (c .before .before .before .before .enum-told2 .given .1))
+    same-up (side d) g (other-is d) (c .before .before .before .links-to .ensures) (told grows (c .before .before .before .before .before .enum-told2 .given .1))
     (c .before .before .gain .ensures)
 
 same-length-3 : tie.Need-same-length-3
@@ -99,9 +111,9 @@ same-length-3 c = search needs
 
 returns-3 : tie.Need-returns-3
 returns-3 c e t u v g =
-    let grows = c .before .before .before .before .before .before .before in
+    let grows = c .before .before .before .before .before .before .before .before in
     let d = grows .before .before in
-    higher-up (side d) g (other-is d) (told grows (c .before .before .before .before .before .enum-told3 .given .1))
+    higher-up (side d) g (other-is d) (c .before .before .before .before .links-to2 .ensures) (told grows (c .before .before .before .before .before .before .enum-told3 .given .1))
     (c .before .before .before .gain2 .ensures) (c .pack .ensures)
 
 pub raised-spec : {M : Type 1} → statement M
@@ -114,8 +126,10 @@ raised-spec =
     enum-told
     mend-from-requires
     enum-told-2
+    links-to-requires
     gain-requires
     enum-told-3
+    links-to-requires-2
     gain-requires-2
     pack-requires
     same-length

@@ -10,9 +10,10 @@ use Rattle.rules.specs.Tree.{Entry, Tree, node, levels, size, max-end}
 use Rattle.rules.specs.Stored.{slot-word}
 use Rattle.rules.proofs.Tests.{eq-cases}
 use Rattle.rules.proofs.Counted.{OneMore}
-use Rattle.node.specs.Node.{max-at, Hung, max-without}
+use Rattle.node.specs.Node.{max-at, Hung}
 use Rattle.node.proofs.Trees.{at-root}
 use Rattle.node.proofs.Updated.{Given}
+use Rattle.settle.specs.Settling.{max-without}
 
 -- the larger of an old max m and a new end n is the new max y; and an old max that is not the end that went stays
 put-in : (n : ℕ) {m x y : ℕ} → m ≡ x → y ≡ max n x → max m n ≡ y

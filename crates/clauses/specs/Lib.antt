@@ -1,2 +1,2 @@
--- What is asked of one slot, of a free slot and of the header.
+-- What is asked of two slots, of a free slot and of the header.
 pub mod Slot

@@ -15,11 +15,12 @@ use Rattle.rules.proofs.Tests.{and-true, true-and}
 use Rattle.rules.proofs.Times.{times-node}
 use Rattle.rules.proofs.Reading.{low-half, high-half, root-fits, tree-read}
 use Rattle.node.proofs.Trees.{at-root}
-use Rattle.clauses.specs.Slot.{entry-in, bound, left-in, right-in}
+use Rattle.clauses.specs.Slot.{entry-in, bound}
+use Rattle.fitting.specs.Fits.{left-in, right-in}
 use Rattle.sound.specs.Claims.{Grown}
 use Rattle.clauses.proofs.Bounds.{bound-some}
 use Rattle.sound.proofs.Split.{join-order, split-order}
-use Rattle.clauses.proofs.Nodes.{Fitting}
+use Rattle.fitting.proofs.Nodes.{Fitting}
 
 -- a stored entry is the one in its slot
 bears-entry : {ss : List ℕ} {e : Entry} → Bears ss e → e ≡ entry-in ss (e .slot)

@@ -7,7 +7,7 @@ use mathlib.Core.Path.{_≡_}
 use native.Mathlib.Omega.{arith}
 use lib.ListN.{set}
 use Rattle.node.specs.Node.{levels-at}
-use Rattle.clauses.specs.Slot.{left-in, right-in}
+use Rattle.fitting.specs.Fits.{left-in, right-in}
 use Rattle.sound.specs.Claims.{Ready, Judged}
 use Rattle.sound.proofs.Verdict.{Passed, ready-right, right-falls, judged-right}
 

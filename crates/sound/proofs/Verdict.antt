@@ -15,11 +15,12 @@ use Rattle.rules.specs.Stored.{slot-word, Stored, none, live}
 use Rattle.rules.proofs.Tests.{and-true, true-and}
 use Rattle.rules.proofs.Times.{times-one, times-node}
 use Rattle.node.specs.Node.{levels-at}
-use Rattle.clauses.specs.Slot.{entry-in, bound, left-in, right-in, fits-here}
+use Rattle.clauses.specs.Slot.{entry-in, bound}
+use Rattle.fitting.specs.Fits.{left-in, right-in, fits-here}
 use Rattle.sound.specs.Claims.{Flags, Unclaimed, Claimed, Ready, Judged}
 use Rattle.sound.proofs.Decisions.{not-both}
 use Rattle.sound.proofs.Marks.{claim-flags, claim-one, claim-none, unclaimed-before}
-use Rattle.clauses.proofs.Nodes.{Fitting, fits-says, says-fits}
+use Rattle.fitting.proofs.Nodes.{Fitting, fits-says, says-fits}
 use Rattle.sound.proofs.Grows.{Parts, grown-node, grown-parts, stored-once}
 
 -- slot k passed the look at itself: it was not claimed, and it fits

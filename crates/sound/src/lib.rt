@@ -1,11 +1,11 @@
 // The soundness check of document 01: whether lent words hold a pool, and so whether an entry may go to work on them.
-use clauses::fits;
-use clauses::fits_alone;
 use clauses::header;
 use clauses::in_order;
-use clauses::left;
-use clauses::right;
 use clauses::zeros;
+use fitting::fits;
+use fitting::fits_alone;
+use fitting::left;
+use fitting::right;
 ghost use mathlib.Core.Path.{_≡_};
 ghost use mathlib.Core.Bool.{true};
 ghost use Prim.Native.Nat.{_*_, _≤_, _<_};

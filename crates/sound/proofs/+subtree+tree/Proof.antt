@@ -17,9 +17,9 @@ use Rattle.sound.proofs.+subtree+tree.Lts-subtree as subtree-lts
 use Rattle.sound.proofs.tree.Reads as tree
 use Rattle.sound.proofs.tree.Kinds as tree-kinds
 use Rattle.sound.proofs.+subtree+tree.Lts-tree as tree-lts
-use Rattle.clauses.proofs.fits.Reads as fits-reads
-use Rattle.clauses.proofs.left.Reads as left-reads
-use Rattle.clauses.proofs.right.Reads as right-reads
+use Rattle.fitting.proofs.fits.Reads as fits-reads
+use Rattle.fitting.proofs.left.Reads as left-reads
+use Rattle.fitting.proofs.right.Reads as right-reads
 use Rattle.sound.proofs.claim.Reads as claim-reads
 use Rattle.sound.proofs.has_children.Reads as has-children-reads
 use Rattle.sound.proofs.tip.Reads as tip-reads

@@ -1,11 +1,11 @@
 -- `fits_alone` is the test of a slot without children. Assumes nothing.
 use mathlib.Core.Path.{_∙_}
 use native.Mathlib.Omega.{arith}
-use Rattle.clauses.proofs.Exact.{exact-none}
-use Rattle.clauses.proofs.Nodes.{exact-fits}
+use Rattle.fitting.proofs.Exact.{exact-none}
+use Rattle.fitting.proofs.Nodes.{exact-fits}
 use borrow.Author.Needs.{needs}
-use Rattle.clauses.proofs.fits_alone.Statement.{statement}
-use Rattle.clauses.proofs.fits_alone.Tie as tie
+use Rattle.fitting.proofs.fits_alone.Statement.{statement}
+use Rattle.fitting.proofs.fits_alone.Tie as tie
 
 word-requires : tie.Need-word-requires
 word-requires c κs = search needs

@@ -1,8 +1,8 @@
 -- `fits_both` is the test of a slot over two children. Assumes nothing.
-use Rattle.clauses.proofs.Exact.{exact-both}
+use Rattle.fitting.proofs.Exact.{exact-both}
 use borrow.Author.Needs.{needs}
-use Rattle.clauses.proofs.fits_both.Statement.{statement}
-use Rattle.clauses.proofs.fits_both.Tie as tie
+use Rattle.fitting.proofs.fits_both.Statement.{statement}
+use Rattle.fitting.proofs.fits_both.Tie as tie
 
 word-requires : tie.Need-word-requires
 word-requires c κs = search needs

@@ -11,8 +11,8 @@ use Rattle.rules.specs.Limits.{slot-words, half}
 use Rattle.rules.specs.Stored.{slot-word}
 use Rattle.rules.proofs.Tests.{and-true, true-and}
 use Rattle.node.specs.Node.{levels-at, size-at, max-at}
-use Rattle.clauses.proofs.Exact.{exact-turned}
-use Rattle.clauses.specs.Slot.{left-in, right-in, exact-height, exact-size, exact-max, exact-over, fits-here}
+use Rattle.fitting.proofs.Exact.{exact-turned}
+use Rattle.fitting.specs.Fits.{left-in, right-in, exact-height, exact-size, exact-max, exact-over, fits-here}
 
 -- the words of slot k are right over its children
 pub record Fitting (ss : List ℕ) (k : ℕ) : Type 0 where

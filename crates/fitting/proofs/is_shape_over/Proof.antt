@@ -1,9 +1,9 @@
 -- `is_shape_over` is the test of a shape over two others. Assumes nothing.
 use borrow.Author.Needs.{needs}
 use mathlib.Core.Path.{refl}
-use Rattle.clauses.specs.Slot.{exact-shape}
-use Rattle.clauses.proofs.is_shape_over.Statement.{statement}
-use Rattle.clauses.proofs.is_shape_over.Tie as tie
+use Rattle.fitting.specs.Fits.{exact-shape}
+use Rattle.fitting.proofs.is_shape_over.Statement.{statement}
+use Rattle.fitting.proofs.is_shape_over.Tie as tie
 
 low-requires : tie.Need-low-requires
 low-requires c κs = search needs

@@ -1,12 +1,12 @@
 -- `fits` is the test of a slot over its children. Assumes nothing.
-use Rattle.clauses.proofs.Nodes.{beyond-words, within-words, exact-fits, only-left, only-right}
+use Rattle.fitting.proofs.Nodes.{beyond-words, within-words, exact-fits, only-left, only-right}
 use Prim.Native.Nat.{_*_, _≤_}
 use mathlib.Core.Path.{_∙_}
 use native.Mathlib.Omega.{arith}
 use lib.ListN.{length}
 use borrow.Author.Needs.{needs}
-use Rattle.clauses.proofs.fits.Statement.{statement}
-use Rattle.clauses.proofs.fits.Tie as tie
+use Rattle.fitting.proofs.fits.Statement.{statement}
+use Rattle.fitting.proofs.fits.Tie as tie
 
 left-requires : tie.Need-left-requires
 left-requires c κs = search needs

@@ -1,8 +1,8 @@
 -- `fits_one` is the test of a slot over its only child. Assumes nothing.
-use Rattle.clauses.proofs.Exact.{exact-one}
+use Rattle.fitting.proofs.Exact.{exact-one}
 use borrow.Author.Needs.{needs}
-use Rattle.clauses.proofs.fits_one.Statement.{statement}
-use Rattle.clauses.proofs.fits_one.Tie as tie
+use Rattle.fitting.proofs.fits_one.Statement.{statement}
+use Rattle.fitting.proofs.fits_one.Tie as tie
 
 word-requires : tie.Need-word-requires
 word-requires c κs = search needs

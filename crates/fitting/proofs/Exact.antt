@@ -12,7 +12,7 @@ use Rattle.rules.specs.Limits.{half}
 use Rattle.rules.specs.Stored.{slot-word, Within}
 use Rattle.rules.proofs.Tests.{le-cases, eq-cases}
 use Rattle.node.specs.Node.{levels-at, size-at, max-at}
-use Rattle.clauses.specs.Slot.{exact-height, exact-size, exact-shape, exact-max, exact-over}
+use Rattle.fitting.specs.Fits.{exact-height, exact-size, exact-shape, exact-max, exact-over}
 
 -- heights compare as the levels do
 suc-leb : (a b : ℕ) → leb a (b + 1) ≡ leb (suc a) (suc b + 1)

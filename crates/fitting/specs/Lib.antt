@@ -1,0 +1,2 @@
+-- What is asked of a slot with its children.
+pub mod Fits

@@ -75,7 +75,8 @@ fn times(repeats: usize) {
     println!("one check is as long as {:.0} walks", checks.minima().library / walk);
 }
 
-/// Measures over the number of entries, and writes the plot.
+/// Measures over the number of entries, and writes the plot. The fewer entries, the more often they are fed, so that each
+/// row is as long in the measuring.
 fn growth(repeats: usize, file: &str) {
     let mut fields = [
         Field { title: "feed, ns a record", other: "crate", points: Vec::new() },
@@ -87,7 +88,8 @@ fn growth(repeats: usize, file: &str) {
     for entries in GROWTH {
         let scene = Scene::new(entries, QUERIES / 5, entries as usize);
         let hits = scene.compare();
-        let feed = scene.feeds(true, repeats).minima().each(2 * entries as usize);
+        let feeds = repeats * SLOTS / entries as usize;
+        let feed = scene.feeds(true, feeds).minima().each(2 * entries as usize);
         let walk = scene.walks(repeats).minima().each(QUERIES as usize / 5);
         let check = scene.checks(10 * repeats).minima().each(1000);
         print!("| {entries} | {hits:.1} |");

@@ -2,12 +2,13 @@
 use reading::Body;
 use reading::Reading;
 use reading::Request;
+ghost use mathlib.Core.Bool.{cond};
 ghost use mathlib.Core.Path.{_≡_};
 ghost use Prim.Native.Nat.{_≤_};
 ghost use lib.ListN.{length};
 ghost use Rattle.rules.specs.Pool.{Pool, Holds, capacity};
 ghost use Rattle.rules.specs.Record.{whole, kinds, reads};
-ghost use Rattle.rules.specs.Request.{serve};
+ghost use Rattle.rules.specs.Request.{is-refusal, serve};
 ghost use Rattle.rules.specs.Feed.{feed-turns};
 ghost use Rattle.rules.specs.Entries.{apply-read, fed};
 ghost use Rattle.reading.specs.Reading.{request-of};
@@ -33,26 +34,10 @@ enum Turn {
     Refused(u64),
 }
 
-// A record that was refused: nothing taken, no hits.
-fn refused(number: u64) -> Applied
-    ensures { λ r. ⌜ (r .number ≡ number) × (r .taken ≡ 0) × (r .hits ≡ 0) ⌝ }
+// What applying a record came to: where it is refused, none of its bytes is taken.
+fn outcome(number: u64, taken: usize, hits: usize) -> Applied
+    ensures { λ r. ⌜ (r .number ≡ number) × (r .taken ≡ cond (is-refusal number) 0 taken) × (r .hits ≡ hits) ⌝ }
 {
-    Applied {
-        number,
-        taken: 0,
-        hits: 0,
-    }
-}
-
-// Serves what a record of `taken` bytes asked. Only a query writes to the lent run of rows.
-fn apply_request(words: &mut [u64], request: Request, taken: usize, rows: &mut [u64]) -> Applied
-    requires { ⌜ ((p : Pool) × Holds (now words) p) ⌝ }
-    ensures { λ r. ⌜ ((p : Pool) → Holds (now (words .entry)) p → applied-of r (now (words .exit)) (now (rows .exit)) ≡ apply-read (whole (request-of request) taken) (capacity (length (now (words .entry)))) p (now (rows .entry))) ⌝ }
-{
-    let served = serve::serve(words, request, rows);
-    let hits = served.hits;
-    let answer = served.answer;
-    let number = serve::number_of(answer);
     if number < 10 {
         Applied {
             number,
@@ -68,6 +53,28 @@ fn apply_request(words: &mut [u64], request: Request, taken: usize, rows: &mut [
     }
 }
 
+// Serves a request without its rows, and answers its number.
+pub fn edit(words: &mut [u64], request: Request) -> u64
+    requires { ⌜ ((p : Pool) × Holds (now words) p) ⌝ }
+    ensures { λ r. ⌜ ((p : Pool) → Holds (now (words .entry)) p → Numbered (now (words .entry)) (now (words .exit)) r (serve (capacity (length (now (words .entry)))) (request-of request) p)) ⌝ }
+{
+    serve::number_of(serve::edit(words, request))
+}
+
+// Serves what a record of `taken` bytes asked. Only a query writes to the lent run of rows.
+fn apply_request(words: &mut [u64], request: Request, taken: usize, rows: &mut [u64]) -> Applied
+    requires { ⌜ ((p : Pool) × Holds (now words) p) ⌝ }
+    ensures { λ r. ⌜ ((p : Pool) → Holds (now (words .entry)) p → applied-of r (now (words .exit)) (now (rows .exit)) ≡ apply-read (whole (request-of request) taken) (capacity (length (now (words .entry)))) p (now (rows .entry))) ⌝ }
+{
+    if let Request::Query { bound, start, end } = request {
+        let served = serve::query_to(words, bound, start, end, rows);
+        let hits = served.hits;
+        let answer = served.answer;
+        return outcome(serve::number_of(answer), taken, hits);
+    }
+    outcome(edit(words, request), taken, 0)
+}
+
 // Applies the record at the front of the bytes. Only a query writes to the lent run of rows.
 pub fn apply(words: &mut [u64], bytes: &[u8], rows: &mut [u64]) -> Applied
     requires { ⌜ ((p : Pool) × Holds (now words) p) ⌝ }
@@ -75,20 +82,9 @@ pub fn apply(words: &mut [u64], bytes: &[u8], rows: &mut [u64]) -> Applied
 {
     match reading::read(bytes) {
         Reading::Whole(request, taken) => apply_request(words, request, taken, rows),
-        Reading::Unknown => refused(14),
-        Reading::CutShort => refused(15),
+        Reading::Unknown => outcome(14, 0, 0),
+        Reading::CutShort => outcome(15, 0, 0),
     }
-}
-
-// Serves a request without a run of rows, and answers its number: one word is no room for a row.
-pub fn edit(words: &mut [u64], request: Request) -> u64
-    requires { ⌜ ((p : Pool) × Holds (now words) p) ⌝ }
-    ensures { λ r. ⌜ ((p : Pool) → Holds (now (words .entry)) p → Numbered (now (words .entry)) (now (words .exit)) r (serve (capacity (length (now (words .entry)))) (request-of request) p)) ⌝ }
-{
-    let mut none = [0u64; 1];
-    let served = serve::serve(words, request, &mut none);
-    let answer = served.answer;
-    serve::number_of(answer)
 }
 
 // One turn of a feed: the record at the front of the bytes.

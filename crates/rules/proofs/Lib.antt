@@ -36,4 +36,5 @@ pub mod Demand
 pub mod Feeding
 pub mod Following
 pub mod Refused
+pub mod Hitless
 pub mod Serving

@@ -1,9 +1,8 @@
 -- Insert and the three removals: document 01, "Tree rules".
-use Prim.Native.Nat.{ℕ}
 use mathlib.Core.Option.{Option, none, some}
 use Rattle.rules.specs.Range.{Range, order, choose}
 use Rattle.rules.specs.Tree.{Entry, Tree, leaf, node}
-use Rattle.rules.specs.Balance.{Side, left, right, near, far, balance, balanced-join}
+use Rattle.rules.specs.Balance.{Side, left, near, far, balance, balanced-join}
 
 -- the entry with that very range
 abbrev pub find : Range → Tree → Option Entry

@@ -1,7 +1,7 @@
 -- The entries, one function each: from all words and bytes given to the number, the counts and all words left.
 -- Document 01, "What each entry answers". "Order: 10, 11, 14, 15, 12, 1 or 2, 13."
 use Prim.Native.Nat.{ℕ}
-use mathlib.Core.Bool.{Bool, true, false, cond}
+use mathlib.Core.Bool.{cond}
 use mathlib.Core.List.{List, [], _∷_}
 use mathlib.Core.Option.{Option, none, some}
 use lib.IntN.{ℤ, pos}

@@ -3,4 +3,3 @@ pub mod Laying
 pub mod Putting
 pub mod Taking
 pub mod Ranged
-pub mod Hitless

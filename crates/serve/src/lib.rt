@@ -33,7 +33,7 @@ pub enum Answer {
     Full,
 }
 
-// The answer to a request, with the number of hits where it is a query.
+// The answer to a query, with the number of hits.
 pub struct Served {
     pub answer: Answer,
     pub hits: usize,
@@ -213,17 +213,10 @@ fn clear(words: &mut [u64]) -> Answer
     Answer::Done
 }
 
-// An answer without hits.
-fn without_hits(answer: Answer) -> Served
-    ensures { λ r. ⌜ (r .answer ≡ answer) × (r .hits ≡ 0) ⌝ }
-{
-    Served { answer, hits: 0 }
-}
-
-// Serves a request. Only a query writes to the lent run of rows.
-pub fn serve(words: &mut [u64], request: Request, rows: &mut [u64]) -> Served
+// Serves a request without its rows: what a query overlaps is not looked for.
+pub fn edit(words: &mut [u64], request: Request) -> Answer
     requires { ⌜ ((p : Pool) × Holds (now words) p) ⌝ }
-    ensures { λ r. ⌜ ((p : Pool) → Holds (now (words .entry)) p → Serves (now (words .entry)) (now (words .exit)) (now (rows .entry)) (now (rows .exit)) (r .answer) (r .hits) (serve (capacity (length (now (words .entry)))) (request-of request) p)) ⌝ }
+    ensures { λ r. ⌜ ((p : Pool) → Holds (now (words .entry)) p → Answers (now (words .entry)) (now (words .exit)) r (serve (capacity (length (now (words .entry)))) (request-of request) p)) ⌝ }
 {
     match request {
         Request::Insert {
@@ -231,11 +224,14 @@ pub fn serve(words: &mut [u64], request: Request, rows: &mut [u64]) -> Served
             start,
             end,
             value,
-        } => without_hits(insert_to(words, bound, start, end, value)),
-        Request::Delete { bound, start, end } => without_hits(delete_to(words, bound, start, end)),
-        Request::DeleteMin => without_hits(delete_end(words, Side::Left)),
-        Request::DeleteMax => without_hits(delete_end(words, Side::Right)),
-        Request::Clear => without_hits(clear(words)),
-        Request::Query { bound, start, end } => query_to(words, bound, start, end, rows),
+        } => insert_to(words, bound, start, end, value),
+        Request::Delete { bound, start, end } => delete_to(words, bound, start, end),
+        Request::DeleteMin => delete_end(words, Side::Left),
+        Request::DeleteMax => delete_end(words, Side::Right),
+        Request::Clear => clear(words),
+        Request::Query { bound, start, end } => match range_to(bound, start, end) {
+            Included::Range(_) => Answer::Done,
+            Included::PastEnd => Answer::PastEnd,
+        },
     }
 }

@@ -105,7 +105,7 @@ module _ (s : Side) {ss : List ℕ} {k a b end : ℕ} {e : Entry} {t u v : Tree}
   height-was = height-read s (g .over) b-is (g .least)
 
   -- there is an entry to take off the shape
-  pub room : half + 1 ≤ slot-word ss k 5
+  room : half + 1 ≤ slot-word ss k 5
   room =
       let shape = g .over .shape-was in
       let less = g .size-is in

@@ -13,12 +13,12 @@ use Rattle.rules.specs.Request.{Request, inserting, deleting, deleting-end, cle
 use Rattle.rules.specs.Record.{Reading, whole, unknown, cut-short}
 use Rattle.rules.specs.Entries.{apply-read}
 use Rattle.rules.proofs.Held.{words-hold}
+use Rattle.rules.proofs.Hitless.{insert-hitless, delete-hitless, end-hitless}
 use Rattle.rules.proofs.Hits.{few-hits}
 use Rattle.rules.proofs.Lengths.{roomy, length-words}
 use Rattle.rules.proofs.Once.{good-fresh, all-slots}
 use Rattle.rules.proofs.Serving.{good-serve}
 use Rattle.survey.specs.Ready.{Ready}
-use Rattle.serve.proofs.Hitless.{insert-hitless, delete-hitless, end-hitless}
 
 -- the words that a record leaves hold a pool
 pub applied-ready : {ws after : List ℕ} (r : Reading) (run : List ℕ) → length after ≡ length ws → (ready : Ready ws)

@@ -1,16 +1,14 @@
--- An edit names nothing: only a query has hits, and only a query writes rows. Assumes nothing.
+-- An insert and the removals name nothing. Assumes nothing.
 use Prim.Native.Nat.{ℕ}
 use mathlib.Core.List.{List, [], _∷_}
 use mathlib.Core.Option.{Option, none, some}
-use mathlib.Core.Path.{_≡_, refl, _∙_}
+use mathlib.Core.Path.{_≡_, refl}
 use Rattle.rules.specs.Range.{Range, End, range-to}
 use Rattle.rules.specs.Tree.{Entry, Tree, leaf, node}
 use Rattle.rules.specs.Balance.{Side}
 use Rattle.rules.specs.Edit.{find}
 use Rattle.rules.specs.Pool.{Pool}
 use Rattle.rules.specs.Request.{Served, inserting, deleting, serve, insert-into, delete-from, delete-end-from, with-range}
-use Rattle.serve.specs.Answers.{Answers, Serves}
-use Rattle.serve.specs.declared.Answer.{Answer}
 
 -- an answer without hits, for each range or without one
 ranged-hitless : (o : Option Range) (p : Pool) (answer : Range → Served Pool Entry) → ((k : Range) → answer k .hits ≡ [])
@@ -44,15 +42,3 @@ end-hitless s p = go (p .tree)
     go : (t : Tree) → delete-end-from s t p .hits ≡ []
     go leaf = refl
     go (node e l r) = refl
-
--- so its answer is whole without the rows
-pub served-edit : {ws after rows : List ℕ} {a b : Answer} {n : ℕ} {served : Served Pool Entry} → Answers ws after a served
-    → served .hits ≡ []
-    → (b ≡ a) × (n ≡ 0)
-    → Serves ws after rows rows b n served
-served-edit {rows = rows} answers hitless is =
-    record {
-      answers = rw (is .0) answers;
-      hits-are = is .1 ∙ rw hitless refl;
-      rows-are = rw hitless refl;
-    }

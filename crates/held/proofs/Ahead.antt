@@ -18,9 +18,9 @@ use Rattle.rules.specs.Entries.{rows-into}
 use Rattle.rules.specs.Stored.{slot-word}
 use Rattle.rules.proofs.Pending.{each-at-start, in-order-down}
 use Rattle.walk.specs.Walk.{Stands, Hit, no-hit, hit-in, Walkable, next}
-use Rattle.walk.specs.Inside.{with-hit-row}
-use Rattle.walk.proofs.Lines.{no-room}
-use Rattle.walk.proofs.Listing.{Walks, walk-few}
+use Rattle.rows.specs.Rows.{with-hit-row}
+use Rattle.rows.proofs.Lines.{no-room}
+use Rattle.rows.proofs.Listing.{Walks, walk-few}
 use Rattle.walk.proofs.Onward.{each-next, next-over, next-hits}
 use Rattle.walk.proofs.Stack.{none-pending}
 use Rattle.held.specs.declared.Hit.{Hit as Row}

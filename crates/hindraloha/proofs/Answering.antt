@@ -13,7 +13,7 @@ use Rattle.rules.specs.Entries.{Edited, Queried, Applied, Fed, check, edit, que
 use Rattle.serve.specs.Answers.{number-of, Serves}
 use Rattle.serve.specs.declared.Answer.{Answer}
 use Rattle.record.specs.Applying.{Numbered}
-use Rattle.hindraloha.proofs.Guarded.{refused-whole, answered}
+use Rattle.guard.proofs.Guarded.{refused-whole, answered}
 
 module _ (ws : List ℕ) (n : ℕ) (is : n ≡ check ws) (h : n ≡ 0 → ⊥) where
   pub edit-refused : (request : Request) → _≡_ {A = Edited} (record { number = n; words = ws }) (edit request ws)

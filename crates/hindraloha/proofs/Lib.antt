@@ -1,5 +1,4 @@
 -- The laws of the entries: a refused pool, and a sound one.
-pub mod Guarded
 pub mod Answering
 pub mod Telling
 pub mod Asking

@@ -17,7 +17,7 @@ use Rattle.rules.proofs.Stored.{holds-laid, holds-rooted}
 use Rattle.rules.proofs.Lengths.{roomy}
 use Rattle.rules.proofs.Reading.{low-half}
 use Rattle.node.proofs.Trees.{at-node, at-root}
-use Rattle.hindraloha.proofs.Guarded.{refused-whole, answered}
+use Rattle.guard.proofs.Guarded.{refused-whole, answered}
 
 module _ (ws : List ℕ) (n : ℕ) (is : n ≡ check ws) (h : n ≡ 0 → ⊥) where
   pub size-refused : _≡_ {A = Told ℕ} (record { number = n; told = 0 }) (size-of ws)

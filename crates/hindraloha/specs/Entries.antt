@@ -1,10 +1,7 @@
 -- The C entries' answers, with the words that they leave, as document 01's entries have them.
 use Prim.Native.Nat.{ℕ}
-use mathlib.Core.Bool.{cond}
 use mathlib.Core.List.{List}
-use lib.Dec.{eqb}
 use lib.IntN.{ℤ}
-use Rattle.rules.specs.Range.{End, excluded, included}
 use Rattle.rules.specs.Entries.{Edited, Told, Queried, Applied, Fed}
 use Rattle.hindraloha.specs.declared.Answer.{Answer}
 use Rattle.hindraloha.specs.declared.Count.{Count}
@@ -12,10 +9,6 @@ use Rattle.hindraloha.specs.declared.Height.{Height}
 use Rattle.hindraloha.specs.declared.Hits.{Hits}
 use Rattle.hindraloha.specs.declared.Taken.{Taken}
 use Rattle.hindraloha.specs.declared.Records.{Records}
-
--- "Insert, delete and query take the end either excluded or included": 0 is excluded, any other number included
-abbrev pub end-of-flag : ℕ → End
-end-of-flag flag = cond (eqb flag 0) excluded included
 
 -- a number, with all words of the pool
 abbrev pub edited : Answer → List ℕ → Edited

@@ -9,7 +9,8 @@ ghost use Prim.Native.Nat.{_≤_};
 ghost use lib.ListN.{length, drop};
 ghost use Rattle.rules.specs.Entries.{query};
 ghost use Rattle.held.specs.Records.{words-of};
-ghost use Rattle.hindraloha.specs.Entries.{end-of-flag, queried};
+ghost use Rattle.guard.specs.Flag.{end-of-flag};
+ghost use Rattle.hindraloha.specs.Entries.{queried};
 ghost use Rattle.hindraloha.specs.Records.{Asks};
 
 // What is to be walked for a query: the query's number, the word that the slots begin at, the slot of the root, 0 for
@@ -37,11 +38,11 @@ fn refused(pool: &[u64], number: u64) -> Asked
 fn ask(pool: &[u64], start: u64, end: u64, included: u8) -> Asked
     ensures { λ r. ⌜ Asks (end-of-flag included) start end (now (pool .entry)) r ⌝ }
 {
-    let number = super::refusal(pool);
+    let number = guard::refusal(pool);
     if number != 0 {
         return refused(pool, number);
     }
-    match serve::range_to(super::bound(included), start, end) {
+    match serve::range_to(guard::bound(included), start, end) {
         Included::Range(range) => Asked {
             number: 0,
             first: 4,

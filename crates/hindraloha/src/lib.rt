@@ -2,15 +2,14 @@
 // document 01's entry, for every input: `rules/specs/Entries.antt`.
 pub mod by_records; // the query that fills a lent list of hit records
 
-use reading::End;
 use reading::Request;
-use sound::Soundness;
 ghost use mathlib.Core.Path.{_≡_};
 ghost use Rattle.rules.specs.Balance.{left, right};
 ghost use Rattle.rules.specs.Request.{inserting, deleting, deleting-end, clearing};
 ghost use Rattle.rules.specs.Entries.{format, check, edit, size-of, height-of, is-empty, query, apply, feed};
-ghost use Rattle.reading.specs.Reading.{end-of, request-of};
-ghost use Rattle.hindraloha.specs.Entries.{end-of-flag, edited, told, told-height, queried, applied, fed};
+ghost use Rattle.reading.specs.Reading.{request-of};
+ghost use Rattle.guard.specs.Flag.{end-of-flag};
+ghost use Rattle.hindraloha.specs.Entries.{edited, told, told-height, queried, applied, fed};
 
 // A number alone.
 #[repr(C)]
@@ -55,33 +54,11 @@ pub struct Records {
     pub taken: usize,
 }
 
-// The number that the pool itself is refused with, 0 for a sound one.
-fn refusal(pool: &[u64]) -> u64
-    ensures { λ r. ⌜ r ≡ check (now (pool .entry)) ⌝ }
-{
-    match sound::check(pool) {
-        Soundness::Sound => 0,
-        Soundness::WrongLength => 10,
-        Soundness::Unsound => 11,
-    }
-}
-
-// Whether an end is included, by a host's number.
-fn bound(included: u8) -> End
-    ensures { λ r. ⌜ end-of r ≡ end-of-flag included ⌝ }
-{
-    if included == 0 {
-        End::Excluded
-    } else {
-        End::Included
-    }
-}
-
 // Serves a request that writes no rows, after the check of the pool.
 fn edit(pool: &mut [u64], request: Request) -> Answer
     ensures { λ r. ⌜ edited r (now (pool .exit)) ≡ edit (request-of request) (now (pool .entry)) ⌝ }
 {
-    let number = refusal(pool);
+    let number = guard::refusal(pool);
     if number != 0 {
         return Answer { number };
     }
@@ -108,7 +85,7 @@ pub extern "C" fn hindraloha_check(pool: &[u64]) -> Answer
     ensures { λ r. ⌜ r .number ≡ check (now (pool .entry)) ⌝ }
 {
     Answer {
-        number: refusal(pool),
+        number: guard::refusal(pool),
     }
 }
 
@@ -123,7 +100,7 @@ pub extern "C" fn hindraloha_insert(
 ) -> Answer
     ensures { λ r. ⌜ edited r (now (pool .exit)) ≡ edit (inserting (end-of-flag included) start end value) (now (pool .entry)) ⌝ }
 {
-    let bound = bound(included);
+    let bound = guard::bound(included);
     edit(
         pool,
         Request::Insert {
@@ -140,7 +117,7 @@ pub extern "C" fn hindraloha_insert(
 pub extern "C" fn hindraloha_delete(pool: &mut [u64], start: u64, end: u64, included: u8) -> Answer
     ensures { λ r. ⌜ edited r (now (pool .exit)) ≡ edit (deleting (end-of-flag included) start end) (now (pool .entry)) ⌝ }
 {
-    let bound = bound(included);
+    let bound = guard::bound(included);
     edit(pool, Request::Delete { bound, start, end })
 }
 
@@ -173,7 +150,7 @@ pub extern "C" fn hindraloha_clear(pool: &mut [u64]) -> Answer
 pub extern "C" fn hindraloha_size(pool: &[u64]) -> Count
     ensures { λ r. ⌜ told r ≡ size-of (now (pool .entry)) ⌝ }
 {
-    let number = refusal(pool);
+    let number = guard::refusal(pool);
     if number != 0 {
         return Count { number, count: 0 };
     }
@@ -188,7 +165,7 @@ pub extern "C" fn hindraloha_size(pool: &[u64]) -> Count
 pub extern "C" fn hindraloha_is_empty(pool: &[u64]) -> Count
     ensures { λ r. ⌜ told r ≡ is-empty (now (pool .entry)) ⌝ }
 {
-    let number = refusal(pool);
+    let number = guard::refusal(pool);
     if number != 0 {
         return Count { number, count: 0 };
     }
@@ -209,7 +186,7 @@ pub extern "C" fn hindraloha_is_empty(pool: &[u64]) -> Count
 pub extern "C" fn hindraloha_height(pool: &[u64]) -> Height
     ensures { λ r. ⌜ told-height r ≡ height-of (now (pool .entry)) ⌝ }
 {
-    let number = refusal(pool);
+    let number = guard::refusal(pool);
     if number != 0 {
         return Height { number, height: 0 };
     }
@@ -238,11 +215,11 @@ pub extern "C" fn hindraloha_query(
 ) -> Hits
     ensures { λ r. ⌜ queried r (now (rows .exit)) ≡ query (end-of-flag included) start end (now (pool .entry)) (now (rows .entry)) ⌝ }
 {
-    let number = refusal(pool);
+    let number = guard::refusal(pool);
     if number != 0 {
         return Hits { number, hits: 0 };
     }
-    let served = serve::query_to(pool, bound(included), start, end, rows);
+    let served = serve::query_to(pool, guard::bound(included), start, end, rows);
     let hits = served.hits;
     let answer = served.answer;
     Hits {
@@ -256,7 +233,7 @@ pub extern "C" fn hindraloha_query(
 pub extern "C" fn hindraloha_apply(pool: &mut [u64], bytes: &[u8], rows: &mut [u64]) -> Taken
     ensures { λ r. ⌜ applied r (now (pool .exit)) (now (rows .exit)) ≡ apply (now (bytes .entry)) (now (pool .entry)) (now (rows .entry)) ⌝ }
 {
-    let number = refusal(pool);
+    let number = guard::refusal(pool);
     if number != 0 {
         return Taken {
             number,
@@ -277,7 +254,7 @@ pub extern "C" fn hindraloha_apply(pool: &mut [u64], bytes: &[u8], rows: &mut [u
 pub extern "C" fn hindraloha_feed(pool: &mut [u64], bytes: &[u8]) -> Records
     ensures { λ r. ⌜ fed r (now (pool .exit)) ≡ feed (now (bytes .entry)) (now (pool .entry)) ⌝ }
 {
-    let number = refusal(pool);
+    let number = guard::refusal(pool);
     if number != 0 {
         return Records {
             number,

@@ -13,7 +13,7 @@ use Rattle.rules.specs.Calls.{call, calls}
 use Rattle.rules.proofs.Applying.{apply-any-run, query-asked}
 use Rattle.rules.proofs.Demand.{after, rows-after, Demand, demand}
 use Rattle.held.specs.Records.{words-of}
-use Rattle.hindraloha.specs.Entries.{end-of-flag}
+use Rattle.guard.specs.Flag.{end-of-flag}
 use Rattle.history.specs.Host.{Called, by-format, by-insert, by-delete, by-delete-min, by-delete-max, by-clear, by-query, by-query-records, by-apply, by-feed, Reached, formatted, then-called}
 
 -- What is promised of the words that a host has after a formatting and any calls: they are the words of `Demand`, so all

@@ -8,7 +8,8 @@ use Rattle.rules.specs.Entries.{format, edit, query, apply, feed}
 use Rattle.rules.specs.History.{Event, formatting, asking, applying, feeding}
 use Rattle.held.specs.Records.{words-of}
 use Rattle.held.specs.declared.Hit.{Hit}
-use Rattle.hindraloha.specs.Entries.{end-of-flag, edited, queried, applied, fed}
+use Rattle.guard.specs.Flag.{end-of-flag}
+use Rattle.hindraloha.specs.Entries.{edited, queried, applied, fed}
 use Rattle.hindraloha.specs.declared.Answer.{Answer}
 use Rattle.hindraloha.specs.declared.Hits.{Hits}
 use Rattle.hindraloha.specs.declared.Taken.{Taken}

@@ -110,6 +110,17 @@ pub fn put(notes: &mut Notes, what: usize, n: u64)
     notes[what] = n;
 }
 
+// How many words of a room of so many are the pool: none where the room has fewer.
+pub fn in_use(notes: &Notes, room: usize) -> usize
+    ensures { λ n. ⌜ n ≤ room ⌝ }
+{
+    let n = notes[WORDS] as usize;
+    if n > room {
+        return 0;
+    }
+    n
+}
+
 // One more node is pending, where there is one. A tree so high that there is no room for it is a difference.
 pub fn push(notes: &mut Notes, slot: u64) {
     let pending = notes[PENDING];

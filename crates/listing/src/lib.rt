@@ -7,8 +7,6 @@ mod shapes;
 
 use lines::line;
 use lines::notes;
-ghost use Prim.Native.Nat.{_≤_};
-ghost use lib.ListN.{length};
 
 // How many words a pool of so many slots has: none where there is no such pool.
 fn pool_words(slots: u64) -> u64 {
@@ -16,17 +14,6 @@ fn pool_words(slots: u64) -> u64 {
         return 0;
     }
     4 + 6 * slots
-}
-
-// How many words of the room are the pool: none where it has fewer.
-fn in_use(room: &[u64], words: u64) -> usize
-    ensures { λ n. ⌜ n ≤ length (now (room .entry)) ⌝ }
-{
-    let n = words as usize;
-    if n > room.len() {
-        return 0;
-    }
-    n
 }
 
 // Obeys a line on the pool.
@@ -65,7 +52,7 @@ fn note(letter: u8, line: &line::Line, notes: &mut notes::Notes) {
 fn take_line(room: &mut [u64], rows: &mut [u64], line: &line::Line, notes: &mut notes::Notes) {
     let letter = line::letter(line);
     note(letter, line, notes);
-    let n = in_use(room, notes[notes::WORDS]);
+    let n = notes::in_use(notes, room.len());
     obey(&mut room[0..n], rows, letter, line, notes);
 }
 

@@ -152,7 +152,7 @@ fn query(words: &[u64], key: Interval, rows: &mut [u64]) -> usize
     ensures { λ n. ⌜ ((p : Pool) → Holds (now (words .entry)) p → (n ≡ length (hits (range-of key) (p .tree))) × (now (rows .exit) ≡ rows-into (hits (range-of key) (p .tree)) (now (rows .entry)))) ⌝ }
 {
     let root = words[0];
-    walk::query(&words[4..], root, key, rows)
+    rows::query(&words[4..], root, key, rows)
 }
 
 // The range of a request, unless its end is past the last number.

@@ -1,10 +1,8 @@
--- The laws of the walk: what is found at a node, the pending trees on the stack, the next hit, the rows, and that a
--- sound pool can be walked.
+-- The laws of the walk: what is found at a node, the pending trees on the stack, the next hit, and that a sound pool can
+-- be walked.
 pub mod Looking
 pub mod Stack
 pub mod Taking
 pub mod Onward
 pub mod Seeking
-pub mod Lines
-pub mod Listing
 pub mod Sound

@@ -1,11 +1,8 @@
--- What the functions inside a walk promise each other: what a step has found at a node, and one row of a query.
-use Prim.Native.Nat.{ℕ, suc, _+_, _*_, _≤_}
-use mathlib.Core.Bool.{cond}
+-- What the functions inside a walk promise each other: what a step has found at a node.
+use Prim.Native.Nat.{ℕ, suc, _+_, _≤_}
 use mathlib.Core.List.{List}
-use mathlib.Core.Option.{Option, none, some}
+use mathlib.Core.Option.{Option}
 use mathlib.Core.Path.{_≡_}
-use lib.Dec.{leb}
-use lib.ListN.{length, set}
 use Rattle.rules.specs.Limits.{most-pending}
 use Rattle.rules.specs.Tree.{Entry, Tree, levels, root}
 use Rattle.rules.specs.Steps.{Pending, Step, leave}
@@ -25,13 +22,3 @@ pub data Leads (ss stack : List ℕ) (n left right hit : ℕ) : Step → Type 0 
       {l r : Tree} {p : Pending} {o : Option Entry} → Pends ss stack n p → Fitting ss (suc n) left l
       → Fitting ss (suc n) right r → Hit ss hit o
       → Leads ss stack n left right hit (record { hit = o; pending = leave r (leave l p) })
-
--- the run with these three words as its row number n: "A row needs three words of room"
-unfoldable pub with-row : List ℕ → ℕ → ℕ → ℕ → ℕ → List ℕ
-with-row run n start end value =
-    cond (leb (3 * n + 3) (length run)) (set (set (set run (3 * n) start) (3 * n + 1) end) (3 * n + 2) value) run
-
--- the run with the row of a hit, if there is one
-abbrev pub with-hit-row : List ℕ → ℕ → Option Entry → List ℕ
-with-hit-row run n none = run
-with-hit-row run n (some e) = with-row run n (e .range .start) (e .range .end) (e .value)

@@ -6,7 +6,7 @@ use lib.ListN.{take}
 use Rattle.rules.specs.Tree.{Tree}
 use Rattle.interval.specs.Interval.{range-of}
 use Rattle.walk.proofs.Seeking.{entries-at}
-use Rattle.walk.proofs.Listing.{Walks, walk-over, walk-less, walk-on}
+use Rattle.rows.proofs.Listing.{Walks, walk-over, walk-less, walk-on}
 use Rattle.held.proofs.Ahead.{ahead-few, rest-start, rest-hit, counted-few}
 use Rattle.held.proofs.rest.Statement.{statement}
 use Rattle.held.proofs.rest.Tie as tie

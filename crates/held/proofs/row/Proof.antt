@@ -1,6 +1,6 @@
 -- `row` has start, end and value of the slot that is hit. Assumes nothing.
 use native.Mathlib.Omega.{arith}
-use Rattle.walk.proofs.Lines.{hit-within}
+use Rattle.rows.proofs.Lines.{hit-within}
 use Rattle.held.proofs.Ahead.{row-none, row-some}
 use Rattle.held.proofs.row.Statement.{statement}
 use Rattle.held.proofs.row.Tie as tie

@@ -1,7 +1,7 @@
 -- `edit` is the rules' entry for a request: the check first, then the sound pool's answer. Assumes nothing.
 use mathlib.Core.Path.{sym, _∙_}
 use Rattle.reading.specs.Reading.{request-of}
-use Rattle.hindraloha.proofs.Guarded.{passed}
+use Rattle.guard.proofs.Guarded.{passed}
 use Rattle.hindraloha.proofs.Answering.{edit-refused, edit-served}
 use borrow.Author.Needs.{needs}
 use Rattle.hindraloha.proofs.edit.Statement.{statement}

@@ -1,6 +1,6 @@
 -- The entry is the rules' apply: the check first, then what the sound pool does with the record. Assumes nothing.
 use mathlib.Core.Path.{sym, _∙_}
-use Rattle.hindraloha.proofs.Guarded.{passed}
+use Rattle.guard.proofs.Guarded.{passed}
 use Rattle.hindraloha.proofs.Answering.{apply-refused-whole, apply-served}
 use borrow.Author.Needs.{needs}
 use Rattle.hindraloha.proofs.hindraloha_apply.Statement.{statement}

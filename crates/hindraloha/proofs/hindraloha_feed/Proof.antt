@@ -1,6 +1,6 @@
 -- The entry is the rules' feed: the check once, then the records. Assumes nothing.
 use mathlib.Core.Path.{sym, _∙_}
-use Rattle.hindraloha.proofs.Guarded.{passed}
+use Rattle.guard.proofs.Guarded.{passed}
 use Rattle.hindraloha.proofs.Answering.{feed-refused, feed-served-whole}
 use borrow.Author.Needs.{needs}
 use Rattle.hindraloha.proofs.hindraloha_feed.Statement.{statement}

@@ -8,7 +8,7 @@ use mir.ValLaws.{toZ-pos}
 use Rattle.rules.specs.Limits.{half}
 use Rattle.rules.specs.Stored.{slot-word}
 use Rattle.pool.proofs.Parts.{part-lent}
-use Rattle.hindraloha.proofs.Guarded.{passed}
+use Rattle.guard.proofs.Guarded.{passed}
 use Rattle.hindraloha.proofs.Telling.{height-refused, no-height-told, height-told, header-in, root-there}
 use borrow.Author.Needs.{needs}
 use Rattle.hindraloha.proofs.hindraloha_height.Statement.{statement}

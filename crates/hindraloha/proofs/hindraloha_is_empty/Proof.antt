@@ -1,6 +1,6 @@
 -- The entry tells whether the live count is 0. Assumes nothing.
 use mathlib.Core.Path.{sym, _∙_}
-use Rattle.hindraloha.proofs.Guarded.{passed}
+use Rattle.guard.proofs.Guarded.{passed}
 use Rattle.hindraloha.proofs.Telling.{empty-refused, empty-told, not-empty-told, header-in}
 use borrow.Author.Needs.{needs}
 use Rattle.hindraloha.proofs.hindraloha_is_empty.Statement.{statement}

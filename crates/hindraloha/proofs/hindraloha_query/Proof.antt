@@ -1,7 +1,7 @@
 -- The entry is the rules' query: the check first, then the sound pool's hits. Assumes nothing.
 use mathlib.Core.Path.{sym, _∙_}
-use Rattle.hindraloha.specs.Entries.{end-of-flag}
-use Rattle.hindraloha.proofs.Guarded.{passed}
+use Rattle.guard.specs.Flag.{end-of-flag}
+use Rattle.guard.proofs.Guarded.{passed}
 use Rattle.hindraloha.proofs.Answering.{query-refused, query-served}
 use borrow.Author.Needs.{needs}
 use Rattle.hindraloha.proofs.hindraloha_query.Statement.{statement}

@@ -1,6 +1,6 @@
 -- The entry tells the live count. Assumes nothing.
 use mathlib.Core.Path.{sym, _∙_}
-use Rattle.hindraloha.proofs.Guarded.{passed}
+use Rattle.guard.proofs.Guarded.{passed}
 use Rattle.hindraloha.proofs.Telling.{size-refused, size-told, header-in}
 use borrow.Author.Needs.{needs}
 use Rattle.hindraloha.proofs.hindraloha_size.Statement.{statement}

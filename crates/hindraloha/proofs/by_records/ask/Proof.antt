@@ -2,8 +2,8 @@
 -- nothing.
 use mathlib.Core.Path.{sym, _∙_}
 use Rattle.serve.proofs.Ranged.{range-known, no-range}
-use Rattle.hindraloha.specs.Entries.{end-of-flag}
-use Rattle.hindraloha.proofs.Guarded.{passed}
+use Rattle.guard.specs.Flag.{end-of-flag}
+use Rattle.guard.proofs.Guarded.{passed}
 use Rattle.hindraloha.proofs.Answering.{query-refused}
 use Rattle.hindraloha.proofs.Telling.{header-in}
 use Rattle.hindraloha.proofs.Asking.{asks-none, asks-pool, past-end}

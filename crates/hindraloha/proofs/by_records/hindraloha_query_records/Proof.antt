@@ -54,7 +54,7 @@ use Rattle.held.proofs.query as query
 use Rattle.held.proofs.query.Symbol as query-def
 use Rattle.held.proofs.query.Symbol.{name as #held·query}
 use Rattle.held.proofs.query.Met as query-thm
-use Rattle.hindraloha.specs.Entries.{end-of-flag}
+use Rattle.guard.specs.Flag.{end-of-flag}
 use Rattle.hindraloha.specs.Records.{Asks}
 use Rattle.hindraloha.specs.declared.by_records.Asked.{Asked}
 use Rattle.hindraloha.proofs.Asking.{records-told}

@@ -49,7 +49,8 @@ use Rattle.held.specs.Records.{words-of}
 use Rattle.held.specs.declared.Hit.{Hit}
 use Rattle.held.proofs.Hit as R
 use Rattle.held.proofs.Hit.Laws as R′
-use Rattle.hindraloha.specs.Entries.{end-of-flag, queried}
+use Rattle.guard.specs.Flag.{end-of-flag}
+use Rattle.hindraloha.specs.Entries.{queried}
 use Rattle.hindraloha.specs.declared.Hits.{Hits}
 use Rattle.hindraloha.proofs.Hits as N
 use Rattle.hindraloha.proofs.Hits.Laws as N′

@@ -3,9 +3,9 @@ use mathlib.Core.Path.{sym}
 use native.Mathlib.Omega.{arith}
 use lib.ListN.{length-set}
 use borrow.Author.Needs.{needs}
-use Rattle.walk.proofs.Lines.{no-room, some-room}
-use Rattle.walk.proofs.write_row.Statement.{statement}
-use Rattle.walk.proofs.write_row.Tie as tie
+use Rattle.rows.proofs.Lines.{no-room, some-room}
+use Rattle.rows.proofs.write_row.Statement.{statement}
+use Rattle.rows.proofs.write_row.Tie as tie
 
 mul-at : tie.Need-mul-at
 mul-at c = search needs

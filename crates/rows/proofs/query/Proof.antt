@@ -7,11 +7,11 @@ use borrow.Author.Needs.{needs}
 use Rattle.interval.specs.Interval.{range-of}
 use Rattle.rules.specs.Limits.{most-pending}
 use Rattle.rules.specs.Tree.{Tree}
 use Rattle.walk.specs.Walk.{Walkable}
 use Rattle.walk.proofs.Seeking.{entries-at}
-use Rattle.walk.proofs.Listing.{Walks, walk-start, walk-few, walk-over, walk-hit, walk-less, walk-on}
-use Rattle.walk.proofs.query.Statement.{statement}
-use Rattle.walk.proofs.query.Tie as tie
+use Rattle.rows.proofs.Listing.{Walks, walk-start, walk-few, walk-over, walk-hit, walk-less, walk-on}
+use Rattle.rows.proofs.query.Statement.{statement}
+use Rattle.rows.proofs.query.Tie as tie
 
 abbrev Inv-loop : tie.InvT-loop
 Inv-loop slots root query rows₀ stack₀ pending₀ top₀ count₀ rows stack pending top count =

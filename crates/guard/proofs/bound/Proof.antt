@@ -1,8 +1,8 @@
 -- `bound` reads a host's number as an end. Assumes nothing.
 use mathlib.Core.Path.{refl}
 use borrow.Author.Tests.{eq-eqb, ne-eqb}
-use Rattle.hindraloha.proofs.bound.Statement.{statement}
-use Rattle.hindraloha.proofs.bound.Tie as tie
+use Rattle.guard.proofs.bound.Statement.{statement}
+use Rattle.guard.proofs.bound.Tie as tie
 
 returns : tie.Need-returns
 returns c = rw (eq-eqb (c .before .args .included) 0 (c .if1 .taken)) refl

@@ -17,13 +17,13 @@ use Rattle.rules.specs.Entries.{rows-into}
 use Rattle.rules.proofs.Hits.{few-hits}
 use Rattle.rules.proofs.Pending.{each-at-start, in-order-down, Fits, fits-down}
 use Rattle.node.proofs.Few.{few-entries}
 use Rattle.walk.specs.declared.After.{After}
 use Rattle.walk.specs.Walk.{Stands, Hit, Leaves, next, Walkable}
-use Rattle.walk.specs.Inside.{with-hit-row}
+use Rattle.rows.specs.Rows.{with-hit-row}
 use Rattle.walk.proofs.Stack.{starts}
 use Rattle.walk.proofs.Onward.{next-falls, each-next, next-hits}
 use Rattle.walk.proofs.Seeking.{entries-at, entries-total, each-fits}
-use Rattle.walk.proofs.Lines.{rows-more}
+use Rattle.rows.proofs.Lines.{rows-more}
 
 -- a query on its way through t: `done` are counted and written
 pub record Walks (ss stack : List ℕ) (n top : ℕ) (q : Range) (t : Tree) (start run : List ℕ) (count : ℕ) : Type 0 where

@@ -2,8 +2,8 @@
 use mathlib.Core.Path.{sym, ap, _∙_}
 use Rattle.sound.specs.Answer.{number-of}
 use borrow.Author.Needs.{needs}
-use Rattle.hindraloha.proofs.refusal.Statement.{statement}
-use Rattle.hindraloha.proofs.refusal.Tie as tie
+use Rattle.guard.proofs.refusal.Statement.{statement}
+use Rattle.guard.proofs.refusal.Tie as tie
 
 check-requires : tie.Need-check-requires
 check-requires c κs = search needs

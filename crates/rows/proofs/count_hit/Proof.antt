@@ -1,8 +1,8 @@
 -- `count_hit` counts a hit and writes its row, and does nothing where there is none. Assumes nothing.
 use borrow.Author.Needs.{needs}
-use Rattle.walk.proofs.Lines.{hit-within, not-counted, counted}
-use Rattle.walk.proofs.count_hit.Statement.{statement}
-use Rattle.walk.proofs.count_hit.Tie as tie
+use Rattle.rows.proofs.Lines.{hit-within, not-counted, counted}
+use Rattle.rows.proofs.count_hit.Statement.{statement}
+use Rattle.rows.proofs.count_hit.Tie as tie
 
 returns : tie.Need-returns
 returns c o h = not-counted h (c .if1 .taken)

@@ -13,8 +13,8 @@ use Rattle.rules.specs.Steps.{with-hit}
 use Rattle.rules.specs.Entries.{rows-into}
 use Rattle.rules.specs.Stored.{slot-word, Within}
 use Rattle.rules.proofs.Tests.{le-cases}
 use Rattle.walk.specs.Walk.{Hit, no-hit, hit-in}
-use Rattle.walk.specs.Inside.{with-row, with-hit-row}
+use Rattle.rows.specs.Rows.{with-row, with-hit-row}
 
 module _ (n start end value : ℕ) where
   -- without room the run stays

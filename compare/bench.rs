@@ -76,7 +76,7 @@ fn times(repeats: usize) {
 }
 
 /// Measures over the number of entries, and writes the plot. The fewer entries, the more often they are fed, so that each
-/// row is as long in the measuring.
+/// row is measured for as long.
 fn growth(repeats: usize, file: &str) {
     let mut fields = [
         Field { title: "feed, ns a record", other: "crate", points: Vec::new() },

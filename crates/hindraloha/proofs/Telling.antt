@@ -1,6 +1,6 @@
 -- What size, height and `is_empty` tell of a sound pool, from its header and its root. Assumes nothing.
 use Prim.Native.Nat.{ℕ, _%_, _≤_, max}
-use mathlib.Core.Bool.{cond}
+use mathlib.Core.Bool.{Bool, true, cond}
 use mathlib.Core.List.{List}
 use mathlib.Core.Path.{_≡_, refl, sym, ap, _∙_}
 use lib.Dec.{eqb}
@@ -11,6 +11,7 @@ use native.Mathlib.Omega.{arith}
 use Rattle.rules.specs.Limits.{half}
 use Rattle.rules.specs.Tree.{Tree, leaf, node, levels, size, height}
 use Rattle.rules.specs.Pool.{Pool, Holds}
+use Rattle.rules.specs.Request.{is-refusal}
 use Rattle.rules.specs.Entries.{Told, check, size-of, height-of, is-empty}
 use Rattle.rules.specs.Stored.{slot-word, Within, Rooted}
 use Rattle.rules.proofs.Stored.{holds-laid, holds-rooted}
@@ -19,26 +20,22 @@ use Rattle.rules.proofs.Reading.{low-half}
 use Rattle.node.proofs.Trees.{at-node, at-root}
 use Rattle.guard.proofs.Guarded.{refused-whole, answered}
 
-module _ (ws : List ℕ) (n : ℕ) (is : n ≡ check ws) (h : n ≡ 0 → ⊥) where
+module _ (ws : List ℕ) {n : ℕ} {tested : Bool} (is : n ≡ check ws) (test : tested ≡ is-refusal n) (h : tested ≡ true) where
   pub size-refused : _≡_ {A = Told ℕ} (record { number = n; told = 0 }) (size-of ws)
   unfolding size-of
   size-refused =
-      refused-whole ws n is h (λ m. record { number = m; told = 0 }) (λ c p. record { number = 0; told = size (p .tree) })
+      refused-whole ws is test h (λ m. record { number = m; told = 0 }) (λ c p. record { number = 0; told = size (p .tree) })
 
   pub empty-refused : _≡_ {A = Told ℕ} (record { number = n; told = 0 }) (is-empty ws)
   unfolding is-empty
   empty-refused =
-      refused-whole ws n is h (λ m. record { number = m; told = 0 })
+      refused-whole ws is test h (λ m. record { number = m; told = 0 })
       (λ c p. record { number = 0; told = cond (eqb (size (p .tree)) 0) 1 0 })
 
   pub height-refused : _≡_ {A = Told ℤ} (record { number = n; told = pos 0 }) (height-of ws)
   unfolding height-of
   height-refused =
-      refused-whole ws n is h (λ m. record { number = m; told = pos 0 }) (λ c p. record { number = 0; told = height (p .tree) })
-
--- the header of a held pool is there
-pub header-in : {ws : List ℕ} {p : Pool} → Holds ws p → 4 ≤ length ws
-header-in {ws} h = let room = roomy (length ws) (h .right) in omega arith
+      refused-whole ws is test h (λ m. record { number = m; told = pos 0 }) (λ c p. record { number = 0; told = height (p .tree) })
 
 module _ {ws : List ℕ} {p : Pool} (h : Holds ws p) where
   pub size-told : (n : ℕ) → n ≡ getD ws 2 0 → _≡_ {A = Told ℕ} (record { number = 0; told = n }) (size-of ws)

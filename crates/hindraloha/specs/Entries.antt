@@ -2,13 +2,11 @@
 use Prim.Native.Nat.{ℕ}
 use mathlib.Core.List.{List}
 use lib.IntN.{ℤ}
-use Rattle.rules.specs.Entries.{Edited, Told, Queried, Applied, Fed}
+use Rattle.rules.specs.Entries.{Edited, Told, Queried}
 use Rattle.hindraloha.specs.declared.Answer.{Answer}
 use Rattle.hindraloha.specs.declared.Count.{Count}
 use Rattle.hindraloha.specs.declared.Height.{Height}
 use Rattle.hindraloha.specs.declared.Hits.{Hits}
-use Rattle.hindraloha.specs.declared.Taken.{Taken}
-use Rattle.hindraloha.specs.declared.Records.{Records}
 
 -- a number, with all words of the pool
 abbrev pub edited : Answer → List ℕ → Edited
@@ -24,11 +22,3 @@ told-height r = record { number = r .number; told = r .height }
 -- a number and the hits, with all words of the lent run
 abbrev pub queried : Hits → List ℕ → Queried
 queried r run = record { number = r .number; count = r .hits; run = run }
-
--- a number, the bytes taken and the hits, with all words of the pool and of the lent run
-abbrev pub applied : Taken → List ℕ → List ℕ → Applied
-applied r after run = record { number = r .number; taken = r .taken; count = r .hits; words = after; run = run }
-
--- a number, the records applied and their bytes, with all words of the pool
-abbrev pub fed : Records → List ℕ → Fed
-fed r after = record { number = r .number; records = r .records; taken = r .taken; words = after }

@@ -2,14 +2,17 @@
 // document 01's entry, for every input: `rules/specs/Entries.antt`.
 pub mod by_records; // the query that fills a lent list of hit records
 
-use reading::Request;
+use record::Applied;
+use record::Fed;
+use request::Request;
 ghost use mathlib.Core.Path.{_≡_};
 ghost use Rattle.rules.specs.Balance.{left, right};
 ghost use Rattle.rules.specs.Request.{inserting, deleting, deleting-end, clearing};
 ghost use Rattle.rules.specs.Entries.{format, check, edit, size-of, height-of, is-empty, query, apply, feed};
-ghost use Rattle.reading.specs.Reading.{request-of};
+ghost use Rattle.request.specs.Requests.{request-of};
 ghost use Rattle.guard.specs.Flag.{end-of-flag};
-ghost use Rattle.hindraloha.specs.Entries.{edited, told, told-height, queried, applied, fed};
+ghost use Rattle.record.specs.Applying.{applied-of, fed-of};
+ghost use Rattle.hindraloha.specs.Entries.{edited, told, told-height, queried};
 
 // A number alone.
 #[repr(C)]
@@ -38,32 +41,16 @@ pub struct Hits {
     pub hits: usize,
 }
 
-// A number, the bytes that an applied record took, and its hits.
-#[repr(C)]
-pub struct Taken {
-    pub number: u64,
-    pub taken: usize,
-    pub hits: usize,
-}
-
-// A number, the records that a feed applied, and their bytes.
-#[repr(C)]
-pub struct Records {
-    pub number: u64,
-    pub records: usize,
-    pub taken: usize,
-}
-
 // Serves a request that writes no rows, after the check of the pool.
 fn edit(pool: &mut [u64], request: Request) -> Answer
     ensures { λ r. ⌜ edited r (now (pool .exit)) ≡ edit (request-of request) (now (pool .entry)) ⌝ }
 {
-    let number = guard::refusal(pool);
-    if number != 0 {
+    let number = guard::check(pool);
+    if request::is_refusal(number) {
         return Answer { number };
     }
     Answer {
-        number: record::edit(pool, request),
+        number: request::number_of(serve::edit(pool, request)),
     }
 }
 
@@ -74,9 +61,13 @@ pub extern "C" fn hindraloha_format(pool: &mut [u64]) -> Answer
 {
     if pool::is_right_length(pool.len()) {
         pool::format(pool);
-        return Answer { number: 0 };
+        return Answer {
+            number: request::number_of(request::Answer::Done),
+        };
     }
-    Answer { number: 10 }
+    Answer {
+        number: request::number_of(request::Answer::WrongLength),
+    }
 }
 
 // Whether the pool is sound.
@@ -85,7 +76,7 @@ pub extern "C" fn hindraloha_check(pool: &[u64]) -> Answer
     ensures { λ r. ⌜ r .number ≡ check (now (pool .entry)) ⌝ }
 {
     Answer {
-        number: guard::refusal(pool),
+        number: guard::check(pool),
     }
 }
 
@@ -150,12 +141,12 @@ pub extern "C" fn hindraloha_clear(pool: &mut [u64]) -> Answer
 pub extern "C" fn hindraloha_size(pool: &[u64]) -> Count
     ensures { λ r. ⌜ told r ≡ size-of (now (pool .entry)) ⌝ }
 {
-    let number = guard::refusal(pool);
-    if number != 0 {
+    let number = guard::check(pool);
+    if request::is_refusal(number) {
         return Count { number, count: 0 };
     }
     Count {
-        number: 0,
+        number,
         count: pool::live(pool),
     }
 }
@@ -165,20 +156,14 @@ pub extern "C" fn hindraloha_size(pool: &[u64]) -> Count
 pub extern "C" fn hindraloha_is_empty(pool: &[u64]) -> Count
     ensures { λ r. ⌜ told r ≡ is-empty (now (pool .entry)) ⌝ }
 {
-    let number = guard::refusal(pool);
-    if number != 0 {
+    let number = guard::check(pool);
+    if request::is_refusal(number) {
         return Count { number, count: 0 };
     }
     if pool::live(pool) == 0 {
-        return Count {
-            number: 0,
-            count: 1,
-        };
+        return Count { number, count: 1 };
     }
-    Count {
-        number: 0,
-        count: 0,
-    }
+    Count { number, count: 0 }
 }
 
 // The height of the tree.
@@ -186,20 +171,17 @@ pub extern "C" fn hindraloha_is_empty(pool: &[u64]) -> Count
 pub extern "C" fn hindraloha_height(pool: &[u64]) -> Height
     ensures { λ r. ⌜ told-height r ≡ height-of (now (pool .entry)) ⌝ }
 {
-    let number = guard::refusal(pool);
-    if number != 0 {
+    let number = guard::check(pool);
+    if request::is_refusal(number) {
         return Height { number, height: 0 };
     }
     let root = pool::root(pool);
     if root == 0 {
-        return Height {
-            number: 0,
-            height: -1,
-        };
+        return Height { number, height: -1 };
     }
     let shape = node::word(&pool[4..], root, 5);
     Height {
-        number: 0,
+        number,
         height: node::low(shape) as i64,
     }
 }
@@ -215,57 +197,42 @@ pub extern "C" fn hindraloha_query(
 ) -> Hits
     ensures { λ r. ⌜ queried r (now (rows .exit)) ≡ query (end-of-flag included) start end (now (pool .entry)) (now (rows .entry)) ⌝ }
 {
-    let number = guard::refusal(pool);
-    if number != 0 {
-        return Hits { number, hits: 0 };
-    }
-    let served = serve::query_to(pool, guard::bound(included), start, end, rows);
-    let hits = served.hits;
-    let answer = served.answer;
+    let asked = guard::ask(pool, start, end, included);
+    let hits = query::list(pool, asked, rows);
     Hits {
-        number: serve::number_of(answer),
+        number: asked.number,
         hits,
     }
 }
 
 // Applies the record at the front of the bytes. Only a query writes to the lent run of rows.
 #[no_mangle]
-pub extern "C" fn hindraloha_apply(pool: &mut [u64], bytes: &[u8], rows: &mut [u64]) -> Taken
-    ensures { λ r. ⌜ applied r (now (pool .exit)) (now (rows .exit)) ≡ apply (now (bytes .entry)) (now (pool .entry)) (now (rows .entry)) ⌝ }
+pub extern "C" fn hindraloha_apply(pool: &mut [u64], bytes: &[u8], rows: &mut [u64]) -> Applied
+    ensures { λ r. ⌜ applied-of r (now (pool .exit)) (now (rows .exit)) ≡ apply (now (bytes .entry)) (now (pool .entry)) (now (rows .entry)) ⌝ }
 {
-    let number = guard::refusal(pool);
-    if number != 0 {
-        return Taken {
+    let number = guard::check(pool);
+    if request::is_refusal(number) {
+        return Applied {
             number,
             taken: 0,
             hits: 0,
         };
     }
-    let done = record::apply(pool, bytes, rows);
-    Taken {
-        number: done.number,
-        taken: done.taken,
-        hits: done.hits,
-    }
+    record::apply(pool, bytes, rows)
 }
 
 // Applies records until the bytes end or one is refused.
 #[no_mangle]
-pub extern "C" fn hindraloha_feed(pool: &mut [u64], bytes: &[u8]) -> Records
-    ensures { λ r. ⌜ fed r (now (pool .exit)) ≡ feed (now (bytes .entry)) (now (pool .entry)) ⌝ }
+pub extern "C" fn hindraloha_feed(pool: &mut [u64], bytes: &[u8]) -> Fed
+    ensures { λ r. ⌜ fed-of r (now (pool .exit)) ≡ feed (now (bytes .entry)) (now (pool .entry)) ⌝ }
 {
-    let number = guard::refusal(pool);
-    if number != 0 {
-        return Records {
+    let number = guard::check(pool);
+    if request::is_refusal(number) {
+        return Fed {
             number,
             records: 0,
             taken: 0,
         };
     }
-    let done = record::feed(pool, bytes);
-    Records {
-        number: done.number,
-        records: done.records,
-        taken: done.taken,
-    }
+    record::feed(pool, bytes)
 }

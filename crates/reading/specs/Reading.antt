@@ -1,40 +1,19 @@
--- How the code's enums stand for document 01's requests and for what reading a record finds, and what a row of the table
--- of kinds says of a body.
+-- How the code's enums stand for what reading a record finds, and what a row of the table of kinds says of a body.
 use Prim.Native.Nat.{ℕ, _≤_}
 use mathlib.Core.List.{List}
 use mathlib.Core.Option.{Option, none, some}
 use lib.ListN.{length, getD}
-use Rattle.rules.specs.Range as range
-use Rattle.rules.specs.Range.{excluded, included}
-use Rattle.rules.specs.Balance.{left, right}
-use Rattle.rules.specs.Request as request
-use Rattle.rules.specs.Request.{inserting, deleting, deleting-end, clearing, querying}
+use Rattle.rules.specs.Range.{excluded}
+use Rattle.rules.specs.Request.{Request, deleting, querying}
 use Rattle.rules.specs.Record as found
 use Rattle.rules.specs.Record.{Kind, kinds, feed-kinds, whole, unknown, cut-short}
-use Rattle.reading.specs.declared.End.{End}
-use Rattle.reading.specs.declared.End.the-variants.{Excluded, Included}
-use Rattle.reading.specs.declared.Request.{Request}
-use Rattle.reading.specs.declared.Request.the-variants.{Insert, Delete, DeleteMin, DeleteMax, Clear, Query}
+use Rattle.request.specs.Requests.{request-of}
 use Rattle.reading.specs.declared.Reading.{Reading}
 use Rattle.reading.specs.declared.Reading.the-variants.{Whole, Unknown, CutShort}
 use Rattle.reading.specs.declared.Body.{Body}
 use Rattle.reading.specs.declared.Body.the-variants as body
 use Rattle.reading.specs.declared.Pair.{Pair}
 use Rattle.reading.specs.declared.Pair.the-variants as pair
-
--- "the end either excluded or included"
-abbrev pub end-of : End → range.End
-end-of Excluded = excluded
-end-of Included = included
-
--- delete-min removes the first, the outermost on the left, and delete-max the last
-abbrev pub request-of : Request → request.Request
-request-of (Insert d a b v) = inserting (end-of d) a b v
-request-of (Delete d a b) = deleting (end-of d) a b
-request-of DeleteMin = deleting-end left
-request-of DeleteMax = deleting-end right
-request-of Clear = clearing
-request-of (Query d a b) = querying (end-of d) a b
 
 -- a whole record with the bytes that it takes, 14 and 15
 abbrev pub reading-of : Reading → found.Reading
@@ -43,7 +22,7 @@ reading-of Unknown = unknown
 reading-of CutShort = cut-short
 
 -- "5 | delete, micrometres | two u64", "9 | query, micrometres | two u64"
-abbrev pub ask-of : Pair → ℕ → ℕ → request.Request
+abbrev pub ask-of : Pair → ℕ → ℕ → Request
 ask-of pair.Delete = deleting excluded
 ask-of pair.Query = querying excluded
 
@@ -70,6 +49,6 @@ Enough none body = ⊥
 Enough (some k) body = k .body-length ≤ length body
 
 -- what a row says that a body asks
-abbrev pub said : Option Kind → List ℕ → Option request.Request
+abbrev pub said : Option Kind → List ℕ → Option Request
 said none body = none
 said (some k) body = some (k .means body)

@@ -1,46 +1,20 @@
 // Reading one survey record from any bytes: a byte of kind, then a body whose length the kind fixes.
+use request::End;
+use request::Request;
 ghost use mathlib.Core.Path.{_≡_};
 ghost use mathlib.Core.Option.{some};
 ghost use Prim.Native.Nat.{_+_, _≤_, _<_};
 ghost use lib.ListN.{length, getD};
 ghost use Rattle.rules.specs.Record.{metre, u32-at, u64-at, insert-by, insert-exact, with-pair};
 ghost use Rattle.rules.specs.Record.{kinds, reads-kind, reads};
-ghost use Rattle.reading.specs.Reading.{end-of, request-of, reading-of, ask-of};
+ghost use Rattle.request.specs.Requests.{end-of, request-of};
+ghost use Rattle.reading.specs.Reading.{reading-of, ask-of};
 ghost use Rattle.reading.specs.Reading.{row, feed-row, length-of, fixed-length, Enough, said};
 
 // A metre and a link in micrometres.
 const METRE: u64 = 1_000_000;
 
 const LINK: u64 = 201_168;
-
-// Whether a range ends before its end or with it.
-pub enum End {
-    Excluded,
-    Included,
-}
-
-// What a record asks of the tree.
-pub enum Request {
-    Insert {
-        bound: End,
-        start: u64,
-        end: u64,
-        value: u64,
-    },
-    Delete {
-        bound: End,
-        start: u64,
-        end: u64,
-    },
-    DeleteMin,
-    DeleteMax,
-    Clear,
-    Query {
-        bound: End,
-        start: u64,
-        end: u64,
-    },
-}
 
 // What reading one record finds: what it asks and how many bytes it takes, a kind that is not in the table (14), or no
 // whole record (15).

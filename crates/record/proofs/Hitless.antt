@@ -10,10 +10,10 @@ use Rattle.rules.specs.Pool.{Pool}
 use Rattle.rules.specs.Request.{serve}
 use Rattle.rules.proofs.Hitless.{insert-hitless, delete-hitless, end-hitless}
 use Rattle.rules.proofs.Serving.{clear-fresh}
-use Rattle.reading.specs.Reading.{end-of, request-of}
-use Rattle.reading.proofs.Request.{the-type}
-use Rattle.reading.specs.declared.Request.{Request}
-use Rattle.reading.specs.declared.Request.the-variants.{Insert, Delete, DeleteMin, DeleteMax, Clear, Query}
+use Rattle.request.specs.Requests.{end-of, request-of}
+use Rattle.request.proofs.Request.{the-type}
+use Rattle.request.specs.declared.Request.{Request}
+use Rattle.request.specs.declared.Request.the-variants.{Insert, Delete, DeleteMin, DeleteMax, Clear, Query}
 
 -- the tags of all requests but a query, which has 5
 abbrev edits : List ℕ

@@ -1,20 +1,21 @@
 // Survey records to a sound pool: one record applied, and a feed of them.
 use reading::Body;
 use reading::Reading;
-use reading::Request;
-ghost use mathlib.Core.Bool.{cond};
+use request::Answer;
+use request::Request;
 ghost use mathlib.Core.Path.{_≡_};
 ghost use Prim.Native.Nat.{_≤_};
 ghost use lib.ListN.{length};
 ghost use Rattle.rules.specs.Pool.{Pool, Holds, capacity};
 ghost use Rattle.rules.specs.Record.{whole, kinds, reads};
-ghost use Rattle.rules.specs.Request.{is-refusal, serve};
+ghost use Rattle.rules.specs.Request.{serve};
 ghost use Rattle.rules.specs.Feed.{feed-turns};
 ghost use Rattle.rules.specs.Entries.{apply-read, fed};
-ghost use Rattle.reading.specs.Reading.{request-of};
-ghost use Rattle.record.specs.Applying.{applied-of, fed-of, Numbered, Turned};
+ghost use Rattle.request.specs.Requests.{request-of};
+ghost use Rattle.record.specs.Applying.{came-to, applied-of, fed-of, Turned};
 
 // What applying a record did: its number, the bytes taken, and the hits.
+#[repr(C)]
 pub struct Applied {
     pub number: u64,
     pub taken: usize,
@@ -22,6 +23,7 @@ pub struct Applied {
 }
 
 // What a feed came to: the number it ended with, the records applied and their bytes.
+#[repr(C)]
 pub struct Fed {
     pub number: u64,
     pub records: usize,
@@ -35,30 +37,21 @@ enum Turn {
 }
 
 // What applying a record came to: where it is refused, none of its bytes is taken.
-fn outcome(number: u64, taken: usize, hits: usize) -> Applied
-    ensures { λ r. ⌜ (r .number ≡ number) × (r .taken ≡ cond (is-refusal number) 0 taken) × (r .hits ≡ hits) ⌝ }
+pub fn outcome(number: u64, taken: usize, hits: usize) -> Applied
+    ensures { λ r. ⌜ r ≡ came-to number taken hits ⌝ }
 {
-    if number < 10 {
-        Applied {
-            number,
-            taken,
-            hits,
-        }
-    } else {
-        Applied {
+    if request::is_refusal(number) {
+        return Applied {
             number,
             taken: 0,
             hits,
-        }
+        };
     }
-}
-
-// Serves a request without its rows, and answers its number.
-pub fn edit(words: &mut [u64], request: Request) -> u64
-    requires { ⌜ ((p : Pool) × Holds (now words) p) ⌝ }
-    ensures { λ r. ⌜ ((p : Pool) → Holds (now (words .entry)) p → Numbered (now (words .entry)) (now (words .exit)) r (serve (capacity (length (now (words .entry)))) (request-of request) p)) ⌝ }
-{
-    serve::number_of(serve::edit(words, request))
+    Applied {
+        number,
+        taken,
+        hits,
+    }
 }
 
 // Serves what a record of `taken` bytes asked. Only a query writes to the lent run of rows.
@@ -67,12 +60,11 @@ fn apply_request(words: &mut [u64], request: Request, taken: usize, rows: &mut [
     ensures { λ r. ⌜ ((p : Pool) → Holds (now (words .entry)) p → applied-of r (now (words .exit)) (now (rows .exit)) ≡ apply-read (whole (request-of request) taken) (capacity (length (now (words .entry)))) p (now (rows .entry))) ⌝ }
 {
     if let Request::Query { bound, start, end } = request {
-        let served = serve::query_to(words, bound, start, end, rows);
-        let hits = served.hits;
-        let answer = served.answer;
-        return outcome(serve::number_of(answer), taken, hits);
+        let asked = query::ask(words, bound, start, end);
+        let hits = query::list(words, asked, rows);
+        return outcome(asked.number, taken, hits);
     }
-    outcome(edit(words, request), taken, 0)
+    outcome(request::number_of(serve::edit(words, request)), taken, 0)
 }
 
 // Applies the record at the front of the bytes. Only a query writes to the lent run of rows.
@@ -82,8 +74,8 @@ pub fn apply(words: &mut [u64], bytes: &[u8], rows: &mut [u64]) -> Applied
 {
     match reading::read(bytes) {
         Reading::Whole(request, taken) => apply_request(words, request, taken, rows),
-        Reading::Unknown => outcome(14, 0, 0),
-        Reading::CutShort => outcome(15, 0, 0),
+        Reading::Unknown => outcome(request::number_of(Answer::UnknownKind), 0, 0),
+        Reading::CutShort => outcome(request::number_of(Answer::CutShort), 0, 0),
     }
 }
 
@@ -94,17 +86,17 @@ fn feed_one(words: &mut [u64], bytes: &[u8]) -> Turn
 {
     let kind = bytes[0];
     match reading::body_length_in_feed(kind) {
-        Body::Unknown => Turn::Refused(14),
+        Body::Unknown => Turn::Refused(request::number_of(Answer::UnknownKind)),
         Body::Length(n) => {
             let body = &bytes[1..];
             if body.len() < n {
-                return Turn::Refused(15);
+                return Turn::Refused(request::number_of(Answer::CutShort));
             }
-            let number = edit(words, reading::means(kind, body));
-            if number < 10 {
-                Turn::Taken(n + 1)
-            } else {
+            let number = request::number_of(serve::edit(words, reading::means(kind, body)));
+            if request::is_refusal(number) {
                 Turn::Refused(number)
+            } else {
+                Turn::Taken(n + 1)
             }
         }
     }
@@ -133,7 +125,7 @@ pub fn feed(words: &mut [u64], bytes: &[u8]) -> Fed
         }
     }
     Fed {
-        number: 0,
+        number: request::number_of(Answer::Done),
         records,
         taken: at,
     }

@@ -25,7 +25,7 @@ use Rattle.pool.proofs.Chains.{chained-kept}
 use Rattle.tree.specs.Edits.{is-some, Inserting, Inserts}
 use Rattle.tree.proofs.Inserting.{times-inserted}
 use Rattle.serve.specs.Answers.{Answers}
-use Rattle.serve.specs.declared.Answer.the-variants.{Done, There, Full}
+use Rattle.request.specs.declared.Answer.the-variants.{Done, There, Full}
 use Rattle.serve.proofs.Laying.{same-words, header-kept, left-words, claimed-once, in-order, header-there, holds-standing}
 
 -- the first free slot is a slot that no entry has

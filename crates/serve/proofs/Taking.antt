@@ -28,7 +28,7 @@ use Rattle.tree.proofs.Hanging.{not-node}
 use Rattle.tree.proofs.Deleting.{times-deleted}
 use Rattle.tree.proofs.Shedding.{times-ended}
 use Rattle.serve.specs.Answers.{Answers}
-use Rattle.serve.specs.declared.Answer.the-variants.{Done, Absent}
+use Rattle.request.specs.declared.Answer.the-variants.{Done, Absent}
 use Rattle.serve.proofs.Laying.{same-words, header-kept, left-words, claimed-once, in-order, holds-standing}
 
 -- A tree was left without one slot, which is then released: the words are those of the smaller pool.

@@ -6,6 +6,7 @@ use fitting::fits;
 use fitting::fits_alone;
 use fitting::left;
 use fitting::right;
+use request::Answer;
 ghost use mathlib.Core.Path.{_≡_};
 ghost use mathlib.Core.Bool.{true};
 ghost use Prim.Native.Nat.{_*_, _≤_, _<_};
@@ -13,18 +14,11 @@ ghost use lib.Dec.{eqb};
 ghost use lib.ListN.{length, getD, set};
 ghost use Rattle.rules.specs.Pool.{right-length};
 ghost use Rattle.rules.specs.Entries.{check};
-ghost use Rattle.sound.specs.Answer.{number-of};
+ghost use Rattle.request.specs.Answers.{number-of};
 ghost use Rattle.sound.specs.Claims.{Decides, IsSound, Parent, Ready, Judged, Chain, Flags, Room};
 
 // The most slots of a pool.
 const MOST_SLOTS: usize = 4095;
-
-// What a check answers.
-pub enum Soundness {
-    Sound,
-    WrongLength,
-    Unsound,
-}
 
 // Claims slot k, and whether it wasn't claimed before.
 fn claim(marks: &mut [u8], k: u64) -> bool
@@ -142,15 +136,15 @@ fn is_sound(words: &[u64]) -> bool
 }
 
 // Whether the words have a right length, and if so whether they hold a pool.
-pub fn check(words: &[u64]) -> Soundness
+pub fn check(words: &[u64]) -> Answer
     ensures { λ r. ⌜ number-of r ≡ check (now (words .entry)) ⌝ }
 {
     if !pool::is_right_length(words.len()) {
-        return Soundness::WrongLength;
+        return Answer::WrongLength;
     }
     if is_sound(words) {
-        Soundness::Sound
+        Answer::Done
     } else {
-        Soundness::Unsound
+        Answer::Unsound
     }
 }

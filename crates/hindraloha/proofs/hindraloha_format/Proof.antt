@@ -11,18 +11,34 @@ is-right-length-requires c κs = search needs
 format-requires : tie.Need-format-requires
 format-requires c κs = sym (c .before .before .is-right-length .ensures) ∙ c .before .if1 .taken
 
+number-of-requires : tie.Need-number-of-requires
+number-of-requires c κs = search needs
+
 same-length : tie.Need-same-length
 same-length c = search needs
 
 returns : tie.Need-returns
 unfolding format
 returns c =
-    rw (sym (c .before .before .before .before .before .is-right-length .ensures) ∙ c .before .before .before .before .if1 .taken, c .before .before .format .ensures) refl
+    let done = c .before .before .before in
+    let right = done .before .before in
+    rw (c .number-of .ensures, sym (right .before .is-right-length .ensures) ∙ right .if1 .taken, done .format .ensures) refl
+
+number-of-requires-2 : tie.Need-number-of-requires-2
+number-of-requires-2 c κs = search needs
 
 returns-2 : tie.Need-returns-2
 unfolding format
-returns-2 c = rw (sym (c .before .is-right-length .ensures) ∙ c .if1 .left) refl
+returns-2 c = rw (c .number-of2 .ensures, sym (c .before .before .is-right-length .ensures) ∙ c .before .if1 .left) refl
 
 pub hindraloha-format-spec : {M : Type 1} → statement M
 hindraloha-format-spec =
-    tie.close (tie.spec is-right-length-requires format-requires same-length returns returns-2)
+    tie.close
+    (tie.spec
+    is-right-length-requires
+    format-requires
+    number-of-requires
+    same-length
+    returns
+    number-of-requires-2
+    returns-2)

@@ -1,24 +1,40 @@
 -- The entry tells the live count. Assumes nothing.
-use mathlib.Core.Path.{sym, _∙_}
-use Rattle.guard.proofs.Guarded.{passed}
-use Rattle.hindraloha.proofs.Telling.{size-refused, size-told, header-in}
+use Prim.Native.Nat.{ℕ}
+use mathlib.Core.List.{List}
+use mathlib.Core.Path.{_≡_}
+use Rattle.rules.specs.Pool.{Pool, Holds}
+use Rattle.query.proofs.Asking.{header-in}
+use Rattle.guard.proofs.Guarded.{passed, passed-zero}
+use Rattle.hindraloha.proofs.Telling.{size-refused, size-told}
 use borrow.Author.Needs.{needs}
 use Rattle.hindraloha.proofs.hindraloha_size.Statement.{statement}
 use Rattle.hindraloha.proofs.hindraloha_size.Tie as tie
 
-refusal-requires : tie.Need-refusal-requires
-refusal-requires c κs = search needs
+-- the pool's words where the check did not refuse them, and the pool that they hold
+abbrev ws : tie.Else1 → List ℕ
+ws e = e .before .before .before .before .args .pool .now
+
+held : (e : tie.Else1) → (p : Pool) × Holds (ws e) p
+held e = passed (ws e) (e .before .before .check .ensures) (e .before .is-refusal .ensures) (e .if1 .left)
+
+zero : (e : tie.Else1) → e .before .before .check .result ≡ 0
+zero e = passed-zero (ws e) (e .before .before .check .ensures) (e .before .is-refusal .ensures) (e .if1 .left)
+
+check-requires : tie.Need-check-requires
+check-requires c κs = search needs
+
+is-refusal-requires : tie.Need-is-refusal-requires
+is-refusal-requires c κs = search needs
 
 returns : tie.Need-returns
-returns c = size-refused (c .before .before .before .args .pool .now) _ (c .before .refusal .ensures) (c .if1 .taken)
+returns c = size-refused (c .before .before .before .before .args .pool .now) (c .before .before .check .ensures) (c .before .is-refusal .ensures) (c .if1 .taken)
 
 live-requires : tie.Need-live-requires
-live-requires c κs = header-in (passed (c .before .before .before .args .pool .now) (sym (c .before .refusal .ensures) ∙ c .if1 .left) .1)
+live-requires c κs = header-in (held c .1)
 
 returns-2 : tie.Need-returns-2
-returns-2 c =
-    let held = passed (c .before .before .before .before .args .pool .now) (sym (c .before .before .refusal .ensures) ∙ c .before .if1 .left) in
-    size-told (held .1) _ (c .live .ensures)
+returns-2 c = rw (zero (c .before)) (size-told (held (c .before) .1) _ (c .live .ensures))
 
 pub hindraloha-size-spec : {M : Type 1} → statement M
-hindraloha-size-spec = tie.close (tie.spec refusal-requires returns live-requires returns-2)
+hindraloha-size-spec =
+    tie.close (tie.spec check-requires is-refusal-requires returns live-requires returns-2)

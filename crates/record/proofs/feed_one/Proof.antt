@@ -2,11 +2,12 @@
 use Prim.Native.Nat.{ℕ, _+_, _≤_}
 use mathlib.Core.List.{List}
 use mathlib.Core.Option.{some}
-use mathlib.Core.Path.{_≡_, refl}
+use mathlib.Core.Path.{_≡_, refl, sym, _∙_}
 use lib.ListN.{length, getD}
 use Rattle.rules.specs.Request.{serve}
 use Rattle.rules.specs.Record.{whole, feed-kinds, reads}
-use Rattle.reading.specs.Reading.{feed-row, fixed-length, request-of}
+use Rattle.request.specs.Requests.{request-of}
+use Rattle.reading.specs.Reading.{feed-row, fixed-length}
 use Rattle.reading.proofs.Found.{cut-in-feed, enough-in-feed, whole-in-feed, unknown-in-feed}
 use Rattle.record.proofs.Turns.{ends-unknown, ends-cut-short}
 use Rattle.record.proofs.Feeding.{turned-on, turned-off}
@@ -43,6 +44,9 @@ body-length-in-feed-requires c κs = search needs
 enum-told : tie.Need-enum-told
 enum-told c = search needs
 
+number-of-requires : tie.Need-number-of-requires
+number-of-requires c κs = search needs
+
 enum-known-n : tie.Need-enum-known-n
 enum-known-n c = search needs
 
@@ -55,11 +59,14 @@ part-body-start c = search needs
 part-body-end : tie.Need-part-body-end
 part-body-end c = search needs
 
+number-of-requires-2 : tie.Need-number-of-requires-2
+number-of-requires-2 c κs = search needs
+
 returns : tie.Need-returns
 returns c p h there =
-    let known = c .before .before .before in
+    let known = c .before .before .before .before in
     let fed = bytes (known .before .before) in
-    (refl, ends-cut-short (serve _) fed p there (cut-in-feed fed (n known) there (fixed known) (c .if1 .taken)))
+    (refl, rw (c .number-of2 .ensures) (ends-cut-short (serve _) fed p there (cut-in-feed fed (n known) there (fixed known) (c .before .if1 .taken))))
 
 means-requires : tie.Need-means-requires
 means-requires c κs =
@@ -70,34 +77,42 @@ means-requires c κs =
 edit-requires : tie.Need-edit-requires
 edit-requires c κs = search needs
 
-add-t19 : tie.Need-add-t19
-add-t19 c = search needs
+number-of-requires-3 : tie.Need-number-of-requires-3
+number-of-requires-3 c κs = search needs
+
+is-refusal-requires : tie.Need-is-refusal-requires
+is-refusal-requires c κs = search needs
+
+add-t25 : tie.Need-add-t25
+add-t25 c = search needs
 
 returns-2 : tie.Need-returns-2
 returns-2 c p h there =
-    let asked = c .before .before in
-    let none-there = rw (c .enum-told .given .1) at (asked .body-length-in-feed .ensures) in
-    (refl, ends-unknown (serve _) (bytes asked) p there (unknown-in-feed (bytes asked) there none-there))
+    let met = c .before .before .before in
+    let none-there = rw (c .before .enum-told .given .1) at (met .body-length-in-feed .ensures) in
+    (refl, rw (c .number-of .ensures) (ends-unknown (serve _) (bytes met) p there (unknown-in-feed (bytes met) there none-there)))
 
 same-length : tie.Need-same-length
 same-length c = search needs
 
 returns-3 : tie.Need-returns-3
 returns-3 c p h there =
-    let edited = c .before .before .before in
+    let told = c .before .before in
+    let edited = told .before .before .before in
     let m = edited .before in
-    turned-on (bytes (m .before .before .before .before .before .before .before)) (request-of (m .means .result)) h there
-    (whole-read m there) (edited .edit .ensures p h) (c .if2 .taken)
+    turned-off (bytes (m .before .before .before .before .before .before .before)) (request-of (m .means .result)) h there
+    (whole-read m there) (told .number-of3 .ensures) (edited .edit .ensures p h) (sym (c .before .is-refusal .ensures) ∙ c .if2 .taken)
 
 same-length-2 : tie.Need-same-length-2
 same-length-2 c = search needs
 
 returns-4 : tie.Need-returns-4
 returns-4 c p h there =
-    let edited = c .before .before .before in
+    let told = c .before .before in
+    let edited = told .before .before .before in
     let m = edited .before in
-    turned-off (bytes (m .before .before .before .before .before .before .before)) (request-of (m .means .result)) h there
-    (whole-read m there) (edited .edit .ensures p h) (c .if2 .left)
+    turned-on (bytes (m .before .before .before .before .before .before .before)) (request-of (m .means .result)) h there
+    (whole-read m there) (told .number-of3 .ensures) (edited .edit .ensures p h) (sym (c .before .is-refusal .ensures) ∙ c .if2 .left)
 
 pub feed-one-spec : {M : Type 1} → statement M
 feed-one-spec =
@@ -106,14 +121,18 @@ feed-one-spec =
     shared-slice-read-kind
     body-length-in-feed-requires
     enum-told
+    number-of-requires
     enum-known-n
     sub-body
     part-body-start
     part-body-end
+    number-of-requires-2
     returns
     means-requires
     edit-requires
-    add-t19
+    number-of-requires-3
+    is-refusal-requires
+    add-t25
     returns-2
     same-length
     returns-3

@@ -55,21 +55,21 @@ use Rattle.held.proofs.query.Symbol as query-def
 use Rattle.held.proofs.query.Symbol.{name as #held·query}
 use Rattle.held.proofs.query.Met as query-thm
 use Rattle.guard.specs.Flag.{end-of-flag}
-use Rattle.hindraloha.specs.Records.{Asks}
-use Rattle.hindraloha.specs.declared.by_records.Asked.{Asked}
+use Rattle.query.specs.Asks.{Asks}
+use Rattle.query.specs.declared.Asked.{Asked}
 use Rattle.hindraloha.proofs.Asking.{records-told}
 use Rattle.hindraloha.proofs.Hits as N
 use Rattle.hindraloha.proofs.Hits.Laws as N′
-use Rattle.hindraloha.proofs.by_records.Asked as K
-use Rattle.hindraloha.proofs.by_records.Asked.Laws as K′
-use Rattle.hindraloha.proofs.by_records.ask as asked
-use Rattle.hindraloha.proofs.by_records.ask.Symbol as asked-def
-use Rattle.hindraloha.proofs.by_records.ask.Symbol.{name as #ask}
-use Rattle.hindraloha.proofs.by_records.ask.Met as asked-thm
-use Rattle.hindraloha.proofs.by_records.slots as slots
-use Rattle.hindraloha.proofs.by_records.slots.Symbol as slots-def
-use Rattle.hindraloha.proofs.by_records.slots.Symbol.{name as #slots}
-use Rattle.hindraloha.proofs.by_records.slots.Met as slots-thm
+use Rattle.query.proofs.Asked as K
+use Rattle.query.proofs.Asked.Laws as K′
+use Rattle.guard.proofs.ask as asked
+use Rattle.guard.proofs.ask.Symbol as asked-def
+use Rattle.guard.proofs.ask.Symbol.{name as #ask}
+use Rattle.guard.proofs.ask.Met as asked-thm
+use Rattle.query.proofs.slots as slots
+use Rattle.query.proofs.slots.Symbol as slots-def
+use Rattle.query.proofs.slots.Symbol.{name as #slots}
+use Rattle.query.proofs.slots.Met as slots-thm
 use Rattle.hindraloha.proofs.by_records.hindraloha_query_records.Key.{name as #entry}
 use Rattle.hindraloha.proofs.by_records.hindraloha_query_records as entry
 use Rattle.hindraloha.proofs.by_records.hindraloha_query_records.Statement as stated
@@ -291,6 +291,6 @@ hindraloha-query-records-spec 𝓤 H 𝓜 𝓖 𝓡 =
     entered 𝓤 H (tripleOf 𝓤 H (𝓖 .A) entry.signature (entry.spec 𝓤 H (𝓖 .A) (𝓜 .mem) (𝓡 .run)))
     (tables 𝓤 H 𝓜 𝓡 code.env .C) (tables 𝓤 H 𝓜 𝓡 code.env .Λ) #entry code.function (code.unfolded 𝓤 H 𝓜 𝓡)
     (entry-meets 𝓤 H (𝓖 .A) (givenOf 𝓤 H 𝓜 𝓖) (𝓜 .mem) (𝓡 .run) (tablesOf 𝓤 H 𝓜 (tables 𝓤 H 𝓜 𝓡 code.env))
-    (cited 𝓤 H (Ask 𝓤 H (𝓖 .A) (𝓜 .mem) (𝓡 .run)) 𝓜 𝓡 code.env #ask asked-def.routine code.calls-hindraloha·by-records·ask (asked-thm.met 𝓤 H 𝓜 𝓖 𝓡))
-    (cited 𝓤 H (Lend 𝓤 H (𝓖 .A) (𝓜 .mem) (𝓡 .run)) 𝓜 𝓡 code.env #slots slots-def.routine code.calls-hindraloha·by-records·slots (slots-thm.met 𝓤 H 𝓜 𝓖 𝓡))
+    (cited 𝓤 H (Ask 𝓤 H (𝓖 .A) (𝓜 .mem) (𝓡 .run)) 𝓜 𝓡 code.env #ask asked-def.routine code.calls-guard·ask (asked-thm.met 𝓤 H 𝓜 𝓖 𝓡))
+    (cited 𝓤 H (Lend 𝓤 H (𝓖 .A) (𝓜 .mem) (𝓡 .run)) 𝓜 𝓡 code.env #slots slots-def.routine code.calls-query·slots (slots-thm.met 𝓤 H 𝓜 𝓖 𝓡))
     (cited 𝓤 H (Query 𝓤 H (𝓖 .A) (𝓜 .mem) (𝓡 .run)) 𝓜 𝓡 code.env #held·query query-def.routine code.calls-held·query (query-thm.met 𝓤 H 𝓜 𝓖 𝓡)))

@@ -1,0 +1,2 @@
+-- The laws of what is to be walked for a query.
+pub mod Asking

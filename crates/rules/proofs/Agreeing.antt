@@ -64,7 +64,7 @@ overlapping-rows q (e ∷ es) = rw (overlapping-rows q es) (go (overlaps (e .ran
     go false = refl
 
 -- "The hits are the overlapping entries": each row is named as often as it overlaps
-same-query : (q : Range) (p : Pool) →
+pub same-query : (q : Range) (p : Pool) →
     Same (names p (hits q (p .tree)))
     (names (rows-of (p .tree)) (overlapping (λ (x : Row). x .range) q (rows-of (p .tree))))
 same-query q p =

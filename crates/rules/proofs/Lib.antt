@@ -34,6 +34,7 @@ pub mod Applying
 pub mod Bytes
 pub mod Demand
 pub mod Feeding
+pub mod Finding
 pub mod Following
 pub mod Refused
 pub mod Hitless

@@ -5,25 +5,32 @@ use Prim.Native.Nat.{ℕ}
 use mathlib.Core.List.{List, [], _∷_}
 use mathlib.Core.Path.{_≡_, sym, ap, _∙_}
 use lib.ListN.{length}
+use Rattle.rules.specs.Range.{End, range-to}
 use Rattle.rules.specs.Pool.{capacity}
 use Rattle.rules.specs.Request.{querying}
-use Rattle.rules.specs.Entries.{Edited, Queried, format, edit, query, apply, feed}
+use Rattle.rules.specs.Entries.{Edited, Queried, Applied, format, edit, query, apply, feed}
 use Rattle.rules.specs.History.{Event, formatting, asking, applying, feeding, history, account-event}
 use Rattle.rules.specs.Calls.{call, calls}
 use Rattle.rules.proofs.Applying.{apply-any-run, query-asked}
+use Rattle.rules.proofs.Finding.{AnswersQuery, Applies}
 use Rattle.rules.proofs.Demand.{after, rows-after, Demand, demand}
 use Rattle.held.specs.Records.{words-of}
 use Rattle.guard.specs.Flag.{end-of-flag}
 use Rattle.history.specs.Host.{Called, by-format, by-insert, by-delete, by-delete-min, by-delete-max, by-clear, by-query, by-query-records, by-apply, by-feed, Reached, formatted, then-called}
 
 -- What is promised of the words that a host has after a formatting and any calls: they are the words of `Demand`, so all
--- that it says of contents, queries, "full", the check and the size is said of them; and whichever call comes next, by
--- whatever answer its contract allows, is answered with the number that the history says.
+-- that it says of contents, queries, records, "full", the check and the size is said of them; and whichever call comes
+-- next, by whatever answer its contract allows, is answered with the number that the history says, and where it may bring
+-- hits (`by-query`, `by-query-records` and `by-apply`), with those of the history's rows.
 pub record Promise (ws : List ℕ) (events : List Event) (now : List ℕ) : Type 0 where
   pub same-words : now ≡ after ws events
   pub demanded : Demand ws events
   pub next-answer : {then : List ℕ} {event : Event} {number : ℕ} → Called now then event number →
       number ≡ account-event (capacity (length ws)) event (rows-after ws events) .number
+  pub query-answer : {answer : Queried} (d : End) (a b : ℕ) (run : List ℕ) → answer ≡ query d a b now run →
+      AnswersQuery (range-to d a b) (rows-after ws events) run answer
+  pub apply-answer : {answer : Applied} (bytes run : List ℕ) → answer ≡ apply bytes now run →
+      Applies (capacity (length ws)) bytes (rows-after ws events) run answer
 
 -- a query by its contract is the rules' call, whatever run is lent
 query-is : {after : List ℕ} {answer : Queried} (a b f : ℕ) (before run : List ℕ)
@@ -73,6 +80,8 @@ kept {ws} {now} {events} reached =
           ap (λ x. x .number) (call-is called)
           ∙ ap (λ (before : List ℕ). call event before .number) (words-are reached)
           ∙ shown .next-number event;
+      query-answer = λ d a b run e. rw (e, words-are reached) (shown .query-answers d a b run);
+      apply-answer = λ bytes run e. rw (e, words-are reached) (shown .apply-answers bytes run);
     }
 
 -- "Any two results it allows are shown to be one": two hosts that make the same calls have the same words, and get the

@@ -32,6 +32,7 @@ pub mod Table
 pub mod Agreeing
 pub mod Applying
 pub mod Bytes
+pub mod Writing
 pub mod Demand
 pub mod Feeding
 pub mod Finding

@@ -1,6 +1,7 @@
 -- The laws of the definitions in specs/, from the range order up to demand 3.
 pub mod Tests
 pub mod Order
+pub mod Included
 pub mod Ascending
 pub mod Height
 pub mod Hits

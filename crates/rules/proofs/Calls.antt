@@ -134,6 +134,15 @@ abbrev pub query_‥_lists_ : ℕ → ℕ → List (List ℕ) → Turn
 query a ‥ b lists rows =
     queries excluded a b (run-of (map (λ r. 0 ∷ 0 ∷ 0 ∷ []) rows)) gives found 0 (length rows) (run-of rows)
 
+-- a run that is lent for rows; "only kind 9 writes to the hit run"
+abbrev pub lent : List ℕ
+lent = 7 ∷ 7 ∷ 7 ∷ 7 ∷ []
+
+-- a record that is no query, or hits nothing: its number and the bytes taken
+infix 80 _yields_taking_
+abbrev pub _yields_taking_ : List ℕ → ℕ → ℕ → Turn
+bytes yields n taking k = applies bytes lent gives applied n k 0 lent
+
 -- "'n' means n..n+1"; its value is n here
 abbrev pub units : List ℕ → List (List ℕ)
 units ns = map (λ n. n ∷ (n + 1) ∷ n ∷ []) ns

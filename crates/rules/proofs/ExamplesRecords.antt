@@ -4,9 +4,9 @@ use Prim.Native.Nat.{ℕ, _+_, _-_, _^_}
 use mathlib.Core.List.{List, [], _∷_, _++_}
 use mathlib.Core.Path.{_≡_, refl}
 use lib.ListN.{replicate}
-use Rattle.rules.proofs.Calls.{entries-computed, Turn, TableRow, row, answers, due-answers}
+use Rattle.rules.proofs.Calls.{entries-computed, TableRow, row, answers, due-answers}
 use Rattle.rules.proofs.Calls.{applies, feeds, shows, applied, fed, all-words, _gives_}
-use Rattle.rules.proofs.Calls.{query_‥_lists_, size-is, units}
+use Rattle.rules.proofs.Calls.{query_‥_lists_, size-is, lent, _yields_taking_, units}
 
 -- a number below 256 as eight bytes, and eight bytes of 255 for 2^64 - 1
 abbrev u64 : ℕ → List ℕ
@@ -14,15 +14,6 @@ u64 n = n ∷ replicate 7 0
 
 abbrev greatest : List ℕ
 greatest = replicate 8 255
-
--- a run that is lent for rows; "only kind 9 writes to the hit run"
-abbrev lent : List ℕ
-lent = 7 ∷ 7 ∷ 7 ∷ 7 ∷ []
-
--- a record that is no query: its number and the bytes taken
-infix 80 _yields_taking_
-abbrev _yields_taking_ : List ℕ → ℕ → ℕ → Turn
-bytes yields n taking k = applies bytes lent gives applied n k 0 lent
 
 -- "numbers little-endian"; "A metre is 1,000,000 micrometres. A link is 201,168"; "Start and end are both multiplied by
 -- the kind's factor. Kind 4 adds one to the end.": 1 m to 4,294,967,295 m with value 2^56, 3 to 258 links, numbers with

@@ -29,6 +29,7 @@ pub mod Examples
 pub mod ExamplesRecords
 pub mod ExamplesRefused
 pub mod ExamplesTree
+pub mod ExamplesWide
 pub mod Table
 pub mod Agreeing
 pub mod Applying

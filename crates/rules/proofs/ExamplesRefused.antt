@@ -1,5 +1,5 @@
 -- Computed examples of what is refused, and of the order in which the numbers are given: ends, full pools, wrong
--- lengths and damaged words. Assumes nothing.
+-- lengths, damaged words and a range twice. Assumes nothing.
 use Prim.Native.Nat.{ℕ, _+_, _-_, _*_, _^_}
 use mathlib.Core.List.{List, [], _∷_, _++_, map}
 use mathlib.Core.Path.{_≡_, refl}
@@ -8,7 +8,7 @@ use lib.ListN.{replicate, set}
 use Rattle.rules.specs.Range.{included}
 use Rattle.rules.specs.Balance.{left}
 use Rattle.rules.specs.Request.{inserting, deleting, deleting-end, clearing}
-use Rattle.rules.specs.Entries.{format}
+use Rattle.rules.specs.Entries.{format, check}
 use Rattle.rules.proofs.Calls.{entries-computed, Turn, TableRow, row, answers, due-answers, answers-on, due}
 use Rattle.rules.proofs.Calls.{edits, queries, applies, feeds, checks, asks-size, asks-height, asks-empty, shows}
 use Rattle.rules.proofs.Calls.{number, found, applied, fed, told, all-words, _gives_}
@@ -128,3 +128,24 @@ on-sound-words = checks gives number 0 ∷ size-is 2 ∷ []
 pub sound-kept : answers-on sound-words on-sound-words ≡ due on-sound-words
 unfolding entries-computed
 sound-kept = refl
+
+-- "strict order": two entries in three slots, 20..21 in slot 1 and a..21 in slot 2, which slot 1's links name
+abbrev beside : ℕ → ℕ → List ℕ
+beside links a =
+    (1 ∷ 3 ∷ 2 ∷ 0 ∷ [])
+    ++ (20 ∷ 21 ∷ 7 ∷ 21 ∷ links ∷ (1 + 65536 * 2) ∷ [])
+    ++ (a ∷ 21 ∷ 8 ∷ 21 ∷ 0 ∷ 65536 ∷ [])
+    ++ replicate 6 0
+
+-- the same range twice, to the left and to the right, is refused
+abbrev twice : List (List ℕ)
+twice = beside 2 20 ∷ beside (65536 * 2) 20 ∷ []
+
+pub twice-refused : map (λ ws. answers-on ws (refusing 11 ws)) twice ≡ map (λ ws. due (refusing 11 ws)) twice
+unfolding entries-computed
+twice-refused = refl
+
+-- and with a start one less to the left, one more to the right, the words are sound
+pub apart-kept : map check (beside 2 19 ∷ beside (65536 * 2) 21 ∷ []) ≡ 0 ∷ 0 ∷ []
+unfolding entries-computed
+apart-kept = refl

@@ -35,6 +35,7 @@ pub mod Agreeing
 pub mod Applying
 pub mod Bytes
 pub mod Writing
+pub mod Written
 pub mod Demand
 pub mod Feeding
 pub mod Finding

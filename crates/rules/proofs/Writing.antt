@@ -1,12 +1,12 @@
 -- What is written is read: the bytes of a survey record that says something are read as the request for it, whatever
 -- follows them, and as cut short where one lacks. No two records have the same bytes. Assumes nothing.
-use Prim.Native.Nat.{ℕ, zero, suc, _*_, _/_, _%_, _^_, _<_}
+use Prim.Native.Nat.{ℕ, zero, suc, _*_, _/_, _%_, _^_, _≤_, _<_}
 use mathlib.Core.List.{List, [], _∷_, _++_}
 use mathlib.Core.Option.{Option, none, some}
 use mathlib.Core.Path.{_≡_, refl, sym, _∙_, ap, subst}
 use native.Mathlib.Nat.{pow-suc}
 use native.Mathlib.Omega.{arith}
-use lib.ListN.{length, getD, take, length-append, length-take}
+use lib.ListN.{length, getD, take, length-append, length-take, List·getD-eq-default}
 use borrow.Author.Tests.{le-leb, lt-leb}
 use Rattle.rules.specs.Limits.{beyond}
 use Rattle.rules.specs.Range.{excluded, included}
@@ -116,6 +116,19 @@ read-fed s h other rest = row-whole (subst (λ o. Row s o) (same-row s other) (r
 pub query-unfed : (a b : ℕ) (rest : List ℕ) → reads feed-kinds (encode (query-range a b) ++ rest) ≡ unknown
 unfolding reads
 query-unfed a b rest = refl
+
+-- nor is any other number a kind: 0, those from 10 on, and in a feed those from 9 on
+pub zero-unread : (body : List ℕ) → reads kinds (0 ∷ body) ≡ unknown
+unfolding reads
+zero-unread body = refl
+
+pub above-unread : (kind : ℕ) (body : List ℕ) → 10 ≤ kind → reads kinds (kind ∷ body) ≡ unknown
+unfolding reads
+above-unread kind body h = ap (λ o. reads-kind o body) (List·getD-eq-default kinds none h)
+
+pub above-unfed : (kind : ℕ) (body : List ℕ) → 9 ≤ kind → reads feed-kinds (kind ∷ body) ≡ unknown
+unfolding reads
+above-unfed kind body h = ap (λ o. reads-kind o body) (List·getD-eq-default feed-kinds none h)
 
 -- each byte of a number, and of a record, is below 256
 number-below : (n x : ℕ) → All (_< 256) (bytes-of n x)

@@ -10,10 +10,9 @@ use lib.ListN.{length, getD, take, length-append, length-take, List·getD-eq-def
 use borrow.Author.Tests.{le-leb, lt-leb}
 use Rattle.rules.specs.Limits.{beyond}
 use Rattle.rules.specs.Range.{excluded, included}
-use Rattle.rules.specs.Balance.{left, right}
-use Rattle.rules.specs.Request.{inserting, deleting, deleting-end, clearing, querying}
-use Rattle.rules.specs.Record.{metre, link, little-endian, u32-at, u64-at, Kind, insert-by, insert-exact}
-use Rattle.rules.specs.Record.{with-pair, bare, kinds, feed-kinds, whole, unknown, cut-short, reads-kind, reads}
+use Rattle.rules.specs.Request.{inserting, deleting, querying}
+use Rattle.rules.specs.Record.{metre, link, little-endian, u32-at, u64-at, Kind, kinds, feed-kinds}
+use Rattle.rules.specs.Record.{whole, unknown, cut-short, reads-kind, reads}
 use Rattle.rules.specs.Writing.{bytes-of, u32, u64, Survey, kind-of, asks, body-of, encode, Fits}
 use Rattle.rules.specs.Writing.{insert-metres, insert-links, insert-micrometres, insert-included, delete-range}
 use Rattle.rules.specs.Writing.{delete-min, delete-max, clear-all, query-range}
@@ -54,33 +53,31 @@ module _ {A : Type 0} where
 -- what a row of the table does with the body of a record: the kind's length is the body's, and what the kind means is
 -- what the record asks
 data Row (s : Survey) : Option Kind → Type 0 where
-  row : (k : Kind) → k .body-length ≡ length (body-of s) →
+  row : {k : Kind} → k .body-length ≡ length (body-of s) →
       ((rest : List ℕ) → k .means (body-of s ++ rest) ≡ asks s) → Row s (some k)
 
 -- each record that fits has such a row
 row-of : (s : Survey) → Fits s → Row s (getD kinds (kind-of s) none)
-row-of (insert-metres a b v) h =
-    row (insert-by metre) refl (short-back (λ x y. inserting excluded (metre * x) (metre * y)) a b v h)
-row-of (insert-links a b v) h =
-    row (insert-by link) refl (short-back (λ x y. inserting excluded (link * x) (link * y)) a b v h)
-row-of (insert-micrometres a b v) h = row (insert-exact excluded) refl (three-back (inserting excluded) a b v h)
-row-of (insert-included a b v) h = row (insert-exact included) refl (three-back (inserting included) a b v h)
-row-of (delete-range a b) h = row (with-pair (deleting excluded)) refl (two-back (deleting excluded) a b h)
-row-of delete-min h = row (bare (deleting-end left)) refl (λ rest. refl)
-row-of delete-max h = row (bare (deleting-end right)) refl (λ rest. refl)
-row-of clear-all h = row (bare clearing) refl (λ rest. refl)
-row-of (query-range a b) h = row (with-pair (querying excluded)) refl (two-back (querying excluded) a b h)
+row-of (insert-metres a b v) h = row refl (short-back (λ x y. inserting excluded (metre * x) (metre * y)) a b v h)
+row-of (insert-links a b v) h = row refl (short-back (λ x y. inserting excluded (link * x) (link * y)) a b v h)
+row-of (insert-micrometres a b v) h = row refl (three-back (inserting excluded) a b v h)
+row-of (insert-included a b v) h = row refl (three-back (inserting included) a b v h)
+row-of (delete-range a b) h = row refl (two-back (deleting excluded) a b h)
+row-of delete-min h = row refl (λ rest. refl)
+row-of delete-max h = row refl (λ rest. refl)
+row-of clear-all h = row refl (λ rest. refl)
+row-of (query-range a b) h = row refl (two-back (querying excluded) a b h)
 
 -- a row reads the body as what the record asks, whatever follows, and a part of the body as cut short
 row-whole : {s : Survey} {o : Option Kind} → Row s o → (rest : List ℕ) →
     reads-kind o (body-of s ++ rest) ≡ whole (asks s) (length (encode s))
-row-whole {s} (row k long meant) rest =
+row-whole {s} (row {k = k} long meant) rest =
     let fits = le-leb (k .body-length) (length (body-of s ++ rest)) (omega (arith, length-append (body-of s) rest)) in
     rw (fits, meant rest, long)
 
 row-cut : {s : Survey} {o : Option Kind} → Row s o → (n : ℕ) → n < length (body-of s) →
     reads-kind o (take n (body-of s)) ≡ cut-short
-row-cut {s} (row k long meant) n h =
+row-cut {s} (row {k = k} long meant) n h =
     rw (lt-leb (k .body-length) (length (take n (body-of s))) (omega (arith, length-take n (body-of s))))
 
 -- a record that fits is read as what it asks, and takes all its bytes; "bytes after the record are ignored"

@@ -12,11 +12,8 @@ use lib.ListN.{length, getD, drop, length-drop}
 use lib.Seq.{drop-drop}
 use borrow.Author.Tests.{leb-true}
 use Rattle.rules.specs.Limits.{beyond}
-use Rattle.rules.specs.Range.{excluded, included}
-use Rattle.rules.specs.Balance.{left, right}
-use Rattle.rules.specs.Request.{Request, deleting, deleting-end, clearing, querying}
-use Rattle.rules.specs.Record.{metre, link, little-endian, u32-at, u64-at, Kind, insert-by, insert-exact}
-use Rattle.rules.specs.Record.{with-pair, bare, kinds, whole, reads-kind, reads}
+use Rattle.rules.specs.Request.{Request}
+use Rattle.rules.specs.Record.{little-endian, u32-at, u64-at, Kind, kinds, whole, reads-kind, reads}
 use Rattle.rules.specs.Writing.{bytes-of, u32, u64, Survey, kind-of, asks, body-of, encode, Fits}
 use Rattle.rules.specs.Writing.{insert-metres, insert-links, insert-micrometres, insert-included, delete-range}
 use Rattle.rules.specs.Writing.{delete-min, delete-max, clear-all, query-range}
@@ -94,7 +91,7 @@ data Says (kind : ℕ) (k : Kind) (body : List ℕ) : Type 0 where
 -- there is such a record for each body that is long enough, if there is a row
 data Rowed (kind : ℕ) : Option Kind → Type 0 where
   no-row : Rowed kind none
-  its-row : (k : Kind) →
+  its-row : {k : Kind} →
       ((body : List ℕ) → All (_< 256) body → k .body-length ≤ length body → Says kind k body) → Rowed kind (some k)
 
 -- so it is with each row of a table whose first row is of that kind
@@ -108,29 +105,29 @@ data Rows : ℕ → List (Option Kind) → Type 0 where
 all-rowed : Rows 0 kinds
 all-rowed =
     no-row
-    ▹ its-row (insert-by metre)
+    ▹ its-row
     (λ body a h.
     says (insert-metres (u32-at 0 body) (u32-at 4 body) (u64-at 8 body)) (short-small body a) refl refl refl
     (short-written body a h))
-    ▹ its-row (insert-by link)
+    ▹ its-row
     (λ body a h.
     says (insert-links (u32-at 0 body) (u32-at 4 body) (u64-at 8 body)) (short-small body a) refl refl refl
     (short-written body a h))
-    ▹ its-row (insert-exact excluded)
+    ▹ its-row
     (λ body a h.
     says (insert-micrometres (u64-at 0 body) (u64-at 8 body) (u64-at 16 body)) (three-small body a) refl refl refl
     (three-written body a h))
-    ▹ its-row (insert-exact included)
+    ▹ its-row
     (λ body a h.
     says (insert-included (u64-at 0 body) (u64-at 8 body) (u64-at 16 body)) (three-small body a) refl refl refl
     (three-written body a h))
-    ▹ its-row (with-pair (deleting excluded))
+    ▹ its-row
     (λ body a h.
     says (delete-range (u64-at 0 body) (u64-at 8 body)) (two-small body a) refl refl refl (two-written body a h))
-    ▹ its-row (bare (deleting-end left)) (λ body a h. says delete-min tt refl refl refl refl)
-    ▹ its-row (bare (deleting-end right)) (λ body a h. says delete-max tt refl refl refl refl)
-    ▹ its-row (bare clearing) (λ body a h. says clear-all tt refl refl refl refl)
-    ▹ its-row (with-pair (querying excluded))
+    ▹ its-row (λ body a h. says delete-min tt refl refl refl refl)
+    ▹ its-row (λ body a h. says delete-max tt refl refl refl refl)
+    ▹ its-row (λ body a h. says clear-all tt refl refl refl refl)
+    ▹ its-row
     (λ body a h.
     says (query-range (u64-at 0 body) (u64-at 8 body)) (two-small body a) refl refl refl (two-written body a h))
     ▹ done
@@ -153,7 +150,7 @@ pub record Written (bytes : List ℕ) (request : Request) (taken : ℕ) : Type 0
 written-body : (kind : ℕ) (body : List ℕ) → All (_< 256) body → {o : Option Kind} → Rowed kind o →
     (request : Request) (taken : ℕ) → reads-kind o body ≡ whole request taken → Written (kind ∷ body) request taken
 written-body kind body a no-row request taken e = absurd (let z : _≡_ {A = ℕ} 0 1 = cc in omega arith)
-written-body kind body a (its-row k row) request taken e = go (leb (k .body-length) (length body)) refl
+written-body kind body a (its-row {k = k} row) request taken e = go (leb (k .body-length) (length body)) refl
   where
     from : Says kind k body → k .means body ≡ request → suc (k .body-length) ≡ taken →
         Written (kind ∷ body) request taken

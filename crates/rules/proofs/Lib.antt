@@ -36,6 +36,7 @@ pub mod Applying
 pub mod Bytes
 pub mod Writing
 pub mod Written
+pub mod WrittenFeed
 pub mod Demand
 pub mod Feeding
 pub mod Finding

@@ -1,12 +1,17 @@
 -- Survey records as one who writes them has them: document 01, "Survey records", from what a record says to its bytes,
--- and what it asks. What is read from bytes stands in Record.antt, of which only the two units are taken.
-use Prim.Native.Nat.{ℕ, zero, suc, _*_, _/_, _%_, _^_, _<_}
+-- what it asks, and what a feed of records comes to. What is read from bytes stands in Record.antt and Feed.antt, of
+-- which only the two units and the counts of a feed are taken.
+use Prim.Native.Nat.{ℕ, zero, suc, _+_, _*_, _/_, _%_, _^_, _<_}
+use mathlib.Core.Bool.{cond}
 use mathlib.Core.List.{List, [], _∷_, _++_}
+use lib.Dec.{leb, eqb}
+use lib.ListN.{length}
 use Rattle.rules.specs.Limits.{beyond}
 use Rattle.rules.specs.Range.{excluded, included}
 use Rattle.rules.specs.Balance.{left, right}
-use Rattle.rules.specs.Request.{Request, inserting, deleting, deleting-end, clearing, querying}
+use Rattle.rules.specs.Request.{Request, Served, inserting, deleting, deleting-end, clearing, querying}
 use Rattle.rules.specs.Record.{metre, link}
+use Rattle.rules.specs.Feed.{Feeding}
 
 -- "numbers little-endian": the n bytes of a number, the lowest first
 abbrev pub bytes-of : ℕ → ℕ → List ℕ
@@ -78,3 +83,28 @@ Fits delete-min = Unit {0}
 Fits delete-max = Unit {0}
 Fits clear-all = Unit {0}
 Fits (query-range a b) = (a < beyond) × (b < beyond)
+
+-- the bytes of records in a row
+abbrev pub encode-all : List Survey → List ℕ
+encode-all [] = []
+encode-all (s ∷ ss) = encode s ++ encode-all ss
+
+-- what a feed comes to with its first record, which is answered so, and what the rest of it would come to: "14 | .. (in
+-- a feed, also 9)"; "Refusals are the numbers from 10 up"; "the refused one changes nothing. 1 and 2 don't stop it and
+-- count as applied."
+abbrev pub feed-first : {S H : Type 0} → Survey → Served S H → S → Feeding S → Feeding S
+feed-first s answer u rest =
+    cond (eqb (kind-of s) 9) (record { number = 14; records = 0; taken = 0; left = u })
+    (cond (leb 10 (answer .number)) (record { number = answer .number; records = 0; taken = 0; left = u })
+    (record {
+      number = rest .number;
+      records = suc (rest .records);
+      taken = length (encode s) + rest .taken;
+      left = rest .left;
+    }))
+
+-- "applies records until the bytes end (0, even with no bytes) or one is refused"
+abbrev pub feed-said : {S H : Type 0} → (Request → S → Served S H) → List Survey → S → Feeding S
+feed-said answers [] u = record { number = 0; records = 0; taken = 0; left = u }
+feed-said answers (s ∷ ss) u =
+    feed-first s (answers (asks s) u) u (feed-said answers ss (answers (asks s) u .left))

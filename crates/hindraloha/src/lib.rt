@@ -11,7 +11,7 @@ ghost use Rattle.rules.specs.Request.{inserting, deleting, deleting-end, cleari
 ghost use Rattle.rules.specs.Entries.{format, check, edit, size-of, height-of, is-empty, query, apply, feed};
 ghost use Rattle.request.specs.Requests.{request-of};
 ghost use Rattle.guard.specs.Flag.{end-of-flag};
-ghost use Rattle.record.specs.Applying.{applied-of, fed-of};
+ghost use Rattle.record.specs.Answers.{applied-of, fed-of};
 ghost use Rattle.hindraloha.specs.Entries.{edited, told, told-height, queried};
 
 // A number alone.

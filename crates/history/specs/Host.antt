@@ -9,7 +9,7 @@ use Rattle.rules.specs.History.{Event, formatting, asking, applying, feeding}
 use Rattle.held.specs.Records.{words-of}
 use Rattle.held.specs.declared.Hit.{Hit}
 use Rattle.guard.specs.Flag.{end-of-flag}
-use Rattle.record.specs.Applying.{applied-of, fed-of}
+use Rattle.record.specs.Answers.{applied-of, fed-of}
 use Rattle.record.specs.declared.Applied.{Applied}
 use Rattle.record.specs.declared.Fed.{Fed}
 use Rattle.hindraloha.specs.Entries.{edited, queried}

@@ -16,7 +16,7 @@ ghost use Rattle.rules.specs.Request.{inserting, deleting, deleting-end, cleari
 ghost use Rattle.rules.specs.Entries.{query, apply, feed};
 ghost use Rattle.rules.specs.History.{formatting, asking, applying, feeding};
 ghost use Rattle.guard.specs.Flag.{end-of-flag};
-ghost use Rattle.record.specs.Applying.{applied-of, fed-of};
+ghost use Rattle.record.specs.Answers.{applied-of, fed-of};
 ghost use Rattle.hindraloha.specs.Entries.{queried};
 ghost use Rattle.history.specs.Host.{Called};
 

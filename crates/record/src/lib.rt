@@ -12,7 +12,8 @@ ghost use Rattle.rules.specs.Request.{serve};
 ghost use Rattle.rules.specs.Feed.{feed-turns};
 ghost use Rattle.rules.specs.Entries.{apply-read, fed};
 ghost use Rattle.request.specs.Requests.{request-of};
-ghost use Rattle.record.specs.Applying.{came-to, applied-of, fed-of, Turned};
+ghost use Rattle.record.specs.Answers.{applied-of, fed-of};
+ghost use Rattle.record.specs.Applying.{came-to, Turned};
 
 // What applying a record did: its number, the bytes taken, and the hits.
 #[repr(C)]

@@ -5,6 +5,7 @@ use hindraloha::hindraloha_format;
 use hindraloha::hindraloha_insert;
 use hindraloha::hindraloha_query;
 use libc::STDOUT_FILENO;
+use rules::POOL_WORDS;
 ghost use Prim.Native.Nat.{_≤_, _<_};
 ghost use lib.ListN.{length};
 
@@ -80,8 +81,8 @@ fn example_12() {
     let mut four = [0u64; 4];
     let mut ten = [0u64; 10];
     let mut fifteen = [0u64; 15];
-    let mut most = [0u64; 24574];
-    let mut beyond = [0u64; 24575];
+    let mut most = [0u64; POOL_WORDS];
+    let mut beyond = [0u64; POOL_WORDS + 1];
     let numbers = [
         hindraloha_format(&mut four).number,
         hindraloha_format(&mut ten).number,

@@ -1,5 +1,6 @@
 // Document 01's clauses of "sound" for a slot with its children: height, size and max are exact, the heights of the children
 // differ by one at most, and each of them is a slot or none.
+use rules::SLOT_WORDS;
 ghost use mathlib.Core.Path.{_≡_};
 ghost use Prim.Native.Nat.{_/_, _%_, _^_, _≤_, _<_};
 ghost use Rattle.rules.specs.Limits.{half};
@@ -78,8 +79,8 @@ pub fn fits(slots: &[u64], k: u64) -> bool
 {
     let l = left(slots, k);
     let r = right(slots, k);
-    let words = slots.len() as u64;
-    if (words < 6 * l) | (words < 6 * r) {
+    let words = slots.len();
+    if (words < SLOT_WORDS * l as usize) | (words < SLOT_WORDS * r as usize) {
         return false;
     }
     if l == 0 {

@@ -23,6 +23,7 @@ use denote.Builtin.{u64}
 use denote.Slice.{sliceTy}
 use denote.Steps.{only, owned, peeks}
 use denote.Struct.Laws as LL
+use Rattle.rules.specs.Limits.{most-pending}
 use Rattle.rules.specs.Tree.{Tree}
 use Rattle.rules.specs.Query.{hits}
 use Rattle.interval.specs.Interval.{range-of}
@@ -35,9 +36,9 @@ use Rattle.held.proofs.Hit.Laws as R′
 use Rattle.held.proofs.Filling as F
 use Rattle.held.proofs.Filling.Laws as F′
 
--- `[u64; 16]`
+-- `[u64; MOST_PENDING]`
 abbrev pub Nodes : RattleType
-Nodes = Array u64 16
+Nodes = Array u64 most-pending
 
 -- the machine values of a stack, of a query on its way and of a record
 abbrev pub nv : List ℕ → Val
@@ -63,7 +64,7 @@ abbrev pub rows-ty : Lifetime → Ty
 rows-ty ℓ = sliceTy (row-ty ℓ)
 
 abbrev pub nodes-ty : Ty
-nodes-ty = tyArray word 16
+nodes-ty = tyArray word most-pending
 
 abbrev pub stack-ty : Lifetime → Ty
 stack-ty ℓ = tyRef ℓ mut nodes-ty
@@ -92,11 +93,11 @@ module _ {M : Type 1} (𝓤 : URA M) (H : Heap 𝓤) (A : Atoms 𝓤) (W : Given
   unfolding partOf
   local-out l ns is =
       qed W (‵ (fat fullShare nodes-ty l 0 (nv ns)) ∷ []) ∵ use1 W (‵ (cellAt fullShare (Nodes .mir) (nv ns ∷ []) l 0)) (W .laws .at-raw fullShare nodes-ty l 0 (nv ns)) $
-      owned ! Nodes (Is Nodes) (array-makes 𝓤 H A W u64 (uint-makes 𝓤 H A W w64) 16) ns _ is $ move ! (1 ∷ 0 ∷ []) $ fjoin ! $ fpack ! (List Val) (λ us. fsep (cellAt fullShare (Nodes .mir) us l 0) (Nodes .own ns us)) (nv ns ∷ []) $ done !
+      owned ! Nodes (Is Nodes) (array-makes 𝓤 H A W u64 (uint-makes 𝓤 H A W w64) most-pending) ns _ is $ move ! (1 ∷ 0 ∷ []) $ fjoin ! $ fpack ! (List Val) (λ us. fsep (cellAt fullShare (Nodes .mir) us l 0) (Nodes .own ns us)) (nv ns ∷ []) $ done !
 
   pub local-back : (l : ℕ) (ns : List ℕ) → ent 𝓤 (sem 𝓤 H A (partAt Nodes fullShare ns l 0)) (sem 𝓤 H A (fat fullShare nodes-ty l 0 (nv ns)))
   unfolding partOf
   local-back l ns =
       qed W (‵ (partAt Nodes fullShare ns l 0) ∷ []) ∵ fpick ! (λ vs. fsplit ! $ move ! (1 ∷ []) $ peeks ! Nodes (Is Nodes) (shows 𝓤 H A Nodes) ns vs (λ p. drop ! $
-      rewrite ! 0 (λ (us : List Val). ‵ (cellAt fullShare (Nodes .mir) us l 0)) (array-tells u64 (uint-vals w64) (uint-tells w64) 16 ns vs p) refl $
+      rewrite ! 0 (λ (us : List Val). ‵ (cellAt fullShare (Nodes .mir) us l 0)) (array-tells u64 (uint-vals w64) (uint-tells w64) most-pending ns vs p) refl $
       use1 W (‵ (fat fullShare nodes-ty l 0 (nv ns))) (W .laws .raw-at fullShare nodes-ty l 0 (nv ns)) $ done !))

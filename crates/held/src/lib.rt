@@ -4,6 +4,7 @@
 // others, which are covered.
 use interval::Interval;
 use node::word;
+use rules::MOST_PENDING;
 ghost use mathlib.Core.Path.{_≡_};
 ghost use mathlib.Core.Bool.{true, cond};
 ghost use mathlib.Core.Option.{Option};
@@ -18,13 +19,10 @@ ghost use Rattle.walk.specs.Walk.{Stands, Hit as Hits, Walkable, next};
 ghost use Rattle.held.specs.Held.{Waiting, Turned, first-of};
 ghost use Rattle.held.specs.Records.{record-of, records-into, Sought, Ahead};
 
-// As many nodes as can be pending.
-pub const ROOM: usize = 16;
-
 // The pending nodes' slots, the latest last, how many they are, the slot of the latest and the slot that the latest step
 // hit, each 0 for none.
 pub struct Stack {
-    pub nodes: [u64; ROOM],
+    pub nodes: [u64; MOST_PENDING],
     pub pending: usize,
     pub top: u64,
     pub hit: u64,
@@ -42,7 +40,7 @@ fn begin(slots: &[u64], root: u64) -> Stack
     requires { ⌜ ((t : Tree) × Walkable (now slots) root t) ⌝ }
     ensures { λ s. ⌜ ((t : Tree) → Walkable (now (slots .entry)) root t → Waiting (now (slots .entry)) s (at-start t)) ⌝ }
 {
-    let mut nodes = [0u64; ROOM];
+    let mut nodes = [0u64; MOST_PENDING];
     let pending = walk::leave(&mut nodes, 0, root);
     Stack {
         nodes,
@@ -145,7 +143,7 @@ fn row(slots: &[u64], k: u64) -> Hit
 fn seek(
     slots: &[u64],
     query: Interval,
-    stack: &mut [u64; ROOM],
+    stack: &mut [u64; MOST_PENDING],
     pending: usize,
     top: u64,
     count: usize,
@@ -171,7 +169,7 @@ fn seek(
 
 // A query's stack and its first hit.
 struct Begun {
-    pub nodes: [u64; ROOM],
+    pub nodes: [u64; MOST_PENDING],
     pub first: Filling,
 }
 
@@ -180,14 +178,19 @@ fn start(slots: &[u64], root: u64, query: Interval, room: usize) -> Begun
     requires { ⌜ ((t : Tree) × Walkable (now slots) root t) ⌝ }
     ensures { λ b. ⌜ (b .first .count ≡ 0) × (b .first .room ≡ room) × ((t : Tree) → Walkable (now (slots .entry)) root t → Ahead (now (slots .entry)) (b .nodes) (range-of query) t (b .first)) ⌝ }
 {
-    let mut nodes = [0u64; ROOM];
+    let mut nodes = [0u64; MOST_PENDING];
     let pending = walk::leave(&mut nodes, 0, root);
     let first = seek(slots, query, &mut nodes, pending, root, 0, room);
     Begun { nodes, first }
 }
 
 // The hit after one that is written.
-fn go_on(slots: &[u64], query: Interval, stack: &mut [u64; ROOM], filling: Filling) -> Filling
+fn go_on(
+    slots: &[u64],
+    query: Interval,
+    stack: &mut [u64; MOST_PENDING],
+    filling: Filling,
+) -> Filling
     requires { ⌜ (filling .fits ≡ true) × ((t : Tree) × Ahead (now slots) (now stack) (range-of query) t filling) ⌝ }
     ensures { λ f. ⌜ (f .count ≡ filling .count + 1) × (f .room ≡ filling .room) × ((t : Tree) → Ahead (now (slots .entry)) (now (stack .entry)) (range-of query) t filling → Ahead (now (slots .entry)) (now (stack .exit)) (range-of query) t f) ⌝ }
 {
@@ -212,7 +215,7 @@ fn counted(count: usize, there: bool) -> usize
 }
 
 // Counts all hits, the latest and those that are still to come.
-fn rest(slots: &[u64], query: Interval, stack: &mut [u64; ROOM], filling: Filling) -> usize
+fn rest(slots: &[u64], query: Interval, stack: &mut [u64; MOST_PENDING], filling: Filling) -> usize
     requires { ⌜ ((t : Tree) × Ahead (now slots) (now stack) (range-of query) t filling) ⌝ }
     ensures { λ n. ⌜ ((t : Tree) → Ahead (now (slots .entry)) (now (stack .entry)) (range-of query) t filling → n ≡ length (hits (range-of query) t)) ⌝ }
 {
@@ -232,7 +235,7 @@ fn rest(slots: &[u64], query: Interval, stack: &mut [u64; ROOM], filling: Fillin
 fn fill(
     slots: &[u64],
     query: Interval,
-    stack: &mut [u64; ROOM],
+    stack: &mut [u64; MOST_PENDING],
     first: Filling,
     rows: &mut [Hit],
 ) -> usize

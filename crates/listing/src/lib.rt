@@ -7,13 +7,16 @@ mod shapes;
 
 use lines::line;
 use lines::notes;
+use rules::HEADER_WORDS;
+use rules::MOST_SLOTS;
+use rules::SLOT_WORDS;
 
 // How many words a pool of so many slots has: none where there is no such pool.
 fn pool_words(slots: u64) -> u64 {
-    if slots > 4095 {
+    if slots > MOST_SLOTS as u64 {
         return 0;
     }
-    4 + 6 * slots
+    (HEADER_WORDS + SLOT_WORDS * slots as usize) as u64
 }
 
 // Obeys a line on the pool.

@@ -1,21 +1,22 @@
 // node.rs of the crate: a node's words in its slot. The slots are lent as the words after the header.
 use interval::Interval;
+use rules::SLOT_WORDS;
 ghost use mathlib.Core.Path.{_≡_};
 ghost use Prim.Native.Nat.{_+_, _*_, _%_, _/_, _≤_, _<_, max};
 ghost use lib.ListN.{length};
 ghost use Rattle.rules.specs.Tree.{Entry, Tree, node, leaf};
 ghost use Rattle.rules.specs.Range.{range};
-ghost use Rattle.rules.specs.Limits.{half};
+ghost use Rattle.rules.specs.Limits.{slot-words, half};
 ghost use Rattle.rules.specs.Stored.{slot-word, Within, Left};
 ghost use Rattle.interval.specs.Interval.{range-of};
 ghost use Rattle.node.specs.Node.{levels-at, size-at, below, max-at, factor, with-words, entry, Hung, Slot};
 
 // Word i of slot k.
 pub fn word(slots: &[u64], k: u64, i: usize) -> u64
-    requires { ⌜ Within (now slots) k × (i < 6) ⌝ }
+    requires { ⌜ Within (now slots) k × (i < slot-words) ⌝ }
     ensures { λ r. ⌜ r ≡ slot-word (now (slots .entry)) k i ⌝ }
 {
-    slots[(6 * (k - 1)) as usize + i]
+    slots[SLOT_WORDS * (k - 1) as usize + i]
 }
 
 // The range in slot k.
@@ -30,10 +31,10 @@ pub fn interval_at(slots: &[u64], k: u64) -> Interval
 
 // Makes a, b and c three words of slot k, from word i on.
 pub fn set_words(slots: &mut [u64], k: u64, i: usize, a: u64, b: u64, c: u64)
-    requires { ⌜ Within (now slots) k × (i < 4) ⌝ }
+    requires { ⌜ Within (now slots) k × (i + 3 ≤ slot-words) ⌝ }
     ensures { λ _. ⌜ now (slots .exit) ≡ with-words (now (slots .entry)) k i a b c ⌝ }
 {
-    let at = (6 * (k - 1)) as usize + i;
+    let at = SLOT_WORDS * (k - 1) as usize + i;
     slots[at] = a;
     slots[at + 1] = b;
     slots[at + 2] = c;
@@ -63,7 +64,7 @@ pub fn high(word: u64) -> u64
 
 // One more than the height of what is in slot s, 0 for none.
 pub fn height(slots: &[u64], s: u64) -> u64
-    requires { ⌜ 6 * s ≤ length (now slots) ⌝ }
+    requires { ⌜ slot-words * s ≤ length (now slots) ⌝ }
     ensures { λ r. ⌜ r ≡ levels-at (now (slots .entry)) s ⌝ }
 {
     if s == 0 {
@@ -75,7 +76,7 @@ pub fn height(slots: &[u64], s: u64) -> u64
 
 // The size of what is in slot s, 0 for none.
 pub fn size(slots: &[u64], s: u64) -> u64
-    requires { ⌜ 6 * s ≤ length (now slots) ⌝ }
+    requires { ⌜ slot-words * s ≤ length (now slots) ⌝ }
     ensures { λ r. ⌜ r ≡ size-at (now (slots .entry)) s ⌝ }
 {
     if s == 0 { 0 } else { high(word(slots, s, 5)) }
@@ -83,7 +84,7 @@ pub fn size(slots: &[u64], s: u64) -> u64
 
 // The largest end of what is in slot s, 0 for none.
 fn max_end(slots: &[u64], s: u64) -> u64
-    requires { ⌜ 6 * s ≤ length (now slots) ⌝ }
+    requires { ⌜ slot-words * s ≤ length (now slots) ⌝ }
     ensures { λ r. ⌜ r ≡ max-at (now (slots .entry)) s ⌝ }
 {
     if s == 0 { 0 } else { word(slots, s, 3) }
@@ -112,7 +113,7 @@ pub fn balance_factor(left: u64, right: u64) -> Factor
 
 // The max of slot k, from its end and its children's max.
 pub fn update_max(slots: &[u64], k: u64, l: u64, r: u64) -> u64
-    requires { ⌜ Within (now slots) k × (6 * l ≤ length (now slots)) × (6 * r ≤ length (now slots)) ⌝ }
+    requires { ⌜ Within (now slots) k × (slot-words * l ≤ length (now slots)) × (slot-words * r ≤ length (now slots)) ⌝ }
     ensures { λ m. ⌜ m ≡ max (slot-word (now (slots .entry)) k 1) (max (max-at (now (slots .entry)) l) (max-at (now (slots .entry)) r)) ⌝ }
 {
     interval::larger(
@@ -124,7 +125,7 @@ pub fn update_max(slots: &[u64], k: u64, l: u64, r: u64) -> u64
 // What a parent takes over of the child in slot s: one more than its height, and its size, as halves of a word; 0 for
 // none.
 pub fn shape_below(slots: &[u64], s: u64) -> u64
-    requires { ⌜ (6 * s ≤ length (now slots)) × (levels-at (now slots) s < half) ⌝ }
+    requires { ⌜ (slot-words * s ≤ length (now slots)) × (levels-at (now slots) s < half) ⌝ }
     ensures { λ r. ⌜ r ≡ below (now (slots .entry)) s ⌝ }
 {
     if s == 0 { 0 } else { word(slots, s, 5) + 1 }

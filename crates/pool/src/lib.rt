@@ -1,26 +1,34 @@
 // What is added around the slots: the lengths of a pool, its header, formatting, and the free chain's first slot.
+use rules::HEADER_WORDS;
+use rules::MOST_SLOTS;
+use rules::SLOT_WORDS;
 ghost use mathlib.Core.Bool.{true};
 ghost use mathlib.Core.Path.{_≡_};
 ghost use Prim.Native.Nat.{_+_, _*_, _/_, _≤_, _<_};
-ghost use lib.ListN.{length, getD};
+ghost use lib.ListN.{length, getD, drop};
 ghost use Rattle.rules.specs.Limits.{header-words, slot-words, half};
 ghost use Rattle.rules.specs.Tree.{leaf};
 ghost use Rattle.rules.specs.Pool as pool;
 ghost use Rattle.rules.specs.Stored.{Within, Chained};
 ghost use Rattle.pool.specs.Around.{with-slot, with-header, Released, Claimed};
 
-// The most slots of a pool.
-const MOST_SLOTS: usize = 4095;
-
 // Whether a run of n words is that of 1 to 4,095 slots.
 pub fn is_right_length(n: usize) -> bool
     ensures { λ r. ⌜ r ≡ pool.right-length n ⌝ }
 {
-    if n < 4 {
+    if n < HEADER_WORDS {
         return false;
     }
-    let slots = (n - 4) / 6;
-    (n == 4 + 6 * slots) & ((1 <= slots) & (slots <= MOST_SLOTS))
+    let slots = (n - HEADER_WORDS) / SLOT_WORDS;
+    (n == HEADER_WORDS + SLOT_WORDS * slots) & ((1 <= slots) & (slots <= MOST_SLOTS))
+}
+
+// The words after the header: those of the slots.
+pub fn slots<'a>(words: &'a [u64]) -> &'a [u64]
+    requires { ⌜ header-words ≤ length (now words) ⌝ }
+    ensures { λ r. ⌜ now r ≡ drop header-words (now (words .entry)) ⌝ }
+{
+    &words[HEADER_WORDS..]
 }
 
 // The slot of the root, 0 for none.
@@ -54,7 +62,7 @@ fn free_slot(slots: &mut [u64], s: u64, next: u64)
     requires { ⌜ Within (now slots) s ⌝ }
     ensures { λ _. ⌜ now (slots .exit) ≡ with-slot (now (slots .entry)) s (pool.slot-of leaf next) ⌝ }
 {
-    let at = (6 * (s - 1)) as usize;
+    let at = SLOT_WORDS * (s - 1) as usize;
     slots[at] = 0;
     slots[at + 1] = 0;
     slots[at + 2] = 0;
@@ -68,7 +76,7 @@ fn link_slots(slots: &mut [u64])
     ensures { λ _. ⌜ Chained (now (slots .exit)) (pool.count-up (length (now (slots .entry)) / slot-words) 1) ⌝ }
 {
     let mut next = 0;
-    let mut s = slots.len() as u64 / 6;
+    let mut s = (slots.len() / SLOT_WORDS) as u64;
     while 0 < s {
         free_slot(slots, s, next);
         next = s;
@@ -83,7 +91,7 @@ pub fn format(words: &mut [u64])
 {
     words[3] = 0;
     set_header(words, 0, 1, 0);
-    link_slots(&mut words[4..]);
+    link_slots(&mut words[HEADER_WORDS..]);
 }
 
 // After a removal: `slot` becomes the first free slot, `top` the root, and the live count is one less.
@@ -94,7 +102,7 @@ pub fn release(words: &mut [u64], top: u64, slot: u64)
     let first = words[1];
     let live = words[2];
     set_header(words, top, slot, live - 1);
-    free_slot(&mut words[4..], slot, first);
+    free_slot(&mut words[HEADER_WORDS..], slot, first);
 }
 
 // After an insert: `top` becomes the root, `next` the first free slot, and the live count is one more.

@@ -4,11 +4,11 @@ mod report;
 
 use lines::line;
 use lines::notes;
+use rules::MOST_SLOTS;
+use rules::POOL_WORDS;
 
-// The words of a pool of 4,095 slots, and of as many rows.
-const POOL_WORDS: usize = 24574;
-
-const ROW_WORDS: usize = 12285;
+// The words of as many rows as a pool has entries at most.
+const ROW_WORDS: usize = 3 * MOST_SLOTS;
 
 // Reads a block and takes it in. Answers whether there was any.
 fn turn(

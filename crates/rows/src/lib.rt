@@ -1,6 +1,7 @@
 // The query by words: a walk to its end, with a row written for each hit while there is room.
 use interval::Interval;
 use node::word;
+use rules::MOST_PENDING;
 ghost use mathlib.Core.Path.{_≡_};
 ghost use mathlib.Core.List.{[]};
 ghost use mathlib.Core.Option.{Option};
@@ -50,7 +51,7 @@ pub fn query(slots: &[u64], root: u64, query: Interval, rows: &mut [u64]) -> usi
     requires { ⌜ ((t : Tree) × Walkable (now slots) root t) ⌝ }
     ensures { λ n. ⌜ ((t : Tree) → Walkable (now (slots .entry)) root t → (n ≡ length (hits (range-of query) t)) × (now (rows .exit) ≡ rows-into (hits (range-of query) t) (now (rows .entry)))) ⌝ }
 {
-    let mut stack = [0u64; walk::ROOM];
+    let mut stack = [0u64; MOST_PENDING];
     let mut pending = walk::leave(&mut stack, 0, root);
     let mut top = root;
     let mut count = 0;

@@ -8,7 +8,7 @@ ghost use lib.ListN.{length};
 ghost use Rattle.rules.specs.Tree.{Entry, Tree, levels};
 ghost use Rattle.rules.specs.Balance as sides;
 ghost use Rattle.rules.specs.Balance.{join, mend, balanced-join, near, far};
-ghost use Rattle.rules.specs.Limits.{half};
+ghost use Rattle.rules.specs.Limits.{slot-words, half};
 ghost use Rattle.rules.specs.Stored.{slot-word, Within};
 ghost use Rattle.node.specs.Node.{levels-at, with-links, Hung};
 ghost use Rattle.balance.specs.Sides.{side-of};
@@ -16,7 +16,7 @@ ghost use Rattle.settle.specs.Settling.{growth, loss, differs, max-witho
 
 // The slot of a root, with 1 as the high half where its height is another one than `height`.
 pub fn marked(slots: &[u64], root: u64, height: u64) -> u64
-    requires { ⌜ (6 * root ≤ length (now slots)) × (root < half) ⌝ }
+    requires { ⌜ (slot-words * root ≤ length (now slots)) × (root < half) ⌝ }
     ensures { λ r. ⌜ r ≡ root + half * differs height (levels-at (now (slots .entry)) root) ⌝ }
 {
     if height == node::height(slots, root) {
@@ -40,7 +40,7 @@ fn links_to(side: Side, a: u64, b: u64) -> u64
 // Mends slot k, as `balance::mend` does. Answers the slot that came up and whether its height is another one than that of k
 // was.
 fn mend_from(slots: &mut [u64], side: Side, k: u64, a: u64, b: u64) -> u64
-    requires { ⌜ (6 * k ≤ length (now slots)) × ((e : Entry) × (t : Tree) × (u : Tree) × Hung (now slots) k a b e t u × (1 ≤ levels t)) ⌝ }
+    requires { ⌜ (slot-words * k ≤ length (now slots)) × ((e : Entry) × (t : Tree) × (u : Tree) × Hung (now slots) k a b e t u × (1 ≤ levels t)) ⌝ }
     ensures { λ r. ⌜ ((e : Entry) (t u : Tree) → Hung (now (slots .entry)) k a b e t u → 1 ≤ levels t → Settles r (now (slots .entry)) (now (slots .exit)) (levels-at (now (slots .entry)) k) (mend (side-of side) e t u)) ⌝ }
 {
     let height = node::height(slots, k);
@@ -58,7 +58,7 @@ pub enum Growth {
 
 // How slot k stands, over what is now in the slot `a` and what was and is in the slot `b`.
 fn growing(slots: &[u64], k: u64, a: u64, b: u64) -> Growth
-    requires { ⌜ (6 * k ≤ length (now slots)) × (6 * a ≤ length (now slots)) × (6 * b ≤ length (now slots)) ⌝ }
+    requires { ⌜ (slot-words * k ≤ length (now slots)) × (slot-words * a ≤ length (now slots)) × (slot-words * b ≤ length (now slots)) ⌝ }
     ensures { λ r. ⌜ r ≡ growth (levels-at (now (slots .entry)) k) (levels-at (now (slots .entry)) a) (levels-at (now (slots .entry)) b) ⌝ }
 {
     let levels = node::height(slots, a);
@@ -120,7 +120,7 @@ pub enum Loss {
 
 // How slot k stands, over what is now in the slot `a` and what was and is in the slot `b`.
 fn losing(slots: &[u64], k: u64, a: u64, b: u64) -> Loss
-    requires { ⌜ (6 * k ≤ length (now slots)) × (6 * a ≤ length (now slots)) × (6 * b ≤ length (now slots)) ⌝ }
+    requires { ⌜ (slot-words * k ≤ length (now slots)) × (slot-words * a ≤ length (now slots)) × (slot-words * b ≤ length (now slots)) ⌝ }
     ensures { λ r. ⌜ r ≡ loss (levels-at (now (slots .entry)) k) (levels-at (now (slots .entry)) a) (levels-at (now (slots .entry)) b) ⌝ }
 {
     let levels = node::height(slots, a);
@@ -137,7 +137,7 @@ fn losing(slots: &[u64], k: u64, a: u64, b: u64) -> Loss
 // The max of slot k over children l and r when an entry with that end has gone from below it: only where that end was
 // the max are the others looked at.
 fn max_without(slots: &[u64], k: u64, l: u64, r: u64, end: u64) -> u64
-    requires { ⌜ Within (now slots) k × (6 * l ≤ length (now slots)) × (6 * r ≤ length (now slots)) ⌝ }
+    requires { ⌜ Within (now slots) k × (slot-words * l ≤ length (now slots)) × (slot-words * r ≤ length (now slots)) ⌝ }
     ensures { λ m. ⌜ m ≡ max-without (now (slots .entry)) k l r end ⌝ }
 {
     let max = node::word(slots, k, 3);
@@ -150,7 +150,7 @@ fn max_without(slots: &[u64], k: u64, l: u64, r: u64, end: u64) -> u64
 // One entry less below slot k, with that end: makes `links` its links, lowers its height by `less`, and makes its size and
 // max exact.
 fn lose(slots: &mut [u64], k: u64, links: u64, less: u64, end: u64)
-    requires { ⌜ Within (now slots) k × (6 * (links % half) ≤ length (now slots)) × (6 * (links / half) ≤ length (now slots)) × (less < half) × (half + less ≤ slot-word (now slots) k 5) ⌝ }
+    requires { ⌜ Within (now slots) k × (slot-words * (links % half) ≤ length (now slots)) × (slot-words * (links / half) ≤ length (now slots)) × (less < half) × (half + less ≤ slot-word (now slots) k 5) ⌝ }
     ensures { λ _. ⌜ now (slots .exit) ≡ with-links (now (slots .entry)) k (max-without (now (slots .entry)) k (links % half) (links / half) end) links (slot-word (now (slots .entry)) k 5 - half - less) ⌝ }
 {
     let max = max_without(slots, k, node::low(links), node::high(links), end);

@@ -6,8 +6,7 @@ use mathlib.Core.List.{List, _++_, append-nil}
 use mathlib.Core.Logic.{⊎-elim}
 use mathlib.Core.Path.{_≡_, sym, ap, _∙_}
 use native.Mathlib.Omega.{arith}
-use lib.ListN.{length, getD, take, drop, length-drop, length-append}
-use lib.Seq.{take-all}
+use lib.ListN.{length, getD, drop, length-drop, length-append}
 use Rattle.rules.specs.Limits.{header-words, slot-words}
 use Rattle.rules.specs.Tree.{Tree, size, entries}
 use Rattle.rules.specs.Pool.{Pool, pool, times, slots, capacity, right-length, Holds}
@@ -152,10 +151,6 @@ module _ (ws : List ℕ) (right : right-length (length ws) ≡ true) where
 -- a pool has its header
 pub header-lent : (n : ℕ) → right-length n ≡ true → header-words ≤ n
 header-lent n right = omega (arith, roomy n right .exact)
-
--- the words after the header are lent as a part
-pub after-header : (ws : List ℕ) → take (length ws - header-words) (drop header-words ws) ≡ drop header-words ws
-after-header ws = take-all (length ws - header-words) (drop header-words ws) (rw length-drop (omega arith))
 
 -- The steps of the check, over the words after the header as it is lent them.
 module _ (ws ss : List ℕ) (right : right-length (length ws) ≡ true) (part : ss ≡ drop header-words ws) where

@@ -7,18 +7,18 @@ use fitting::fits_alone;
 use fitting::left;
 use fitting::right;
 use request::Answer;
+use rules::MOST_SLOTS;
+use rules::SLOT_WORDS;
 ghost use mathlib.Core.Path.{_≡_};
 ghost use mathlib.Core.Bool.{true};
 ghost use Prim.Native.Nat.{_*_, _≤_, _<_};
 ghost use lib.Dec.{eqb};
 ghost use lib.ListN.{length, getD, set};
+ghost use Rattle.rules.specs.Limits.{slot-words};
 ghost use Rattle.rules.specs.Pool.{right-length};
 ghost use Rattle.rules.specs.Entries.{check};
 ghost use Rattle.request.specs.Answers.{number-of};
 ghost use Rattle.sound.specs.Claims.{Decides, IsSound, Parent, Ready, Judged, Chain, Flags, Room};
-
-// The most slots of a pool.
-const MOST_SLOTS: usize = 4095;
 
 // Claims slot k, and whether it wasn't claimed before.
 fn claim(marks: &mut [u8], k: u64) -> bool
@@ -33,7 +33,7 @@ fn claim(marks: &mut [u8], k: u64) -> bool
 
 // Whether slot k is there and has a child.
 fn has_children(slots: &[u64], k: u64) -> bool
-    requires { ⌜ 6 * k ≤ length (now slots) ⌝ }
+    requires { ⌜ slot-words * k ≤ length (now slots) ⌝ }
     ensures { λ b. ⌜ Decides (Parent (now (slots .entry)) k) b ⌝ }
 {
     if k == 0 {
@@ -98,7 +98,7 @@ fn chain(slots: &[u64], marks: &mut [u8], first: u64, n: u64) -> bool
     requires { ⌜ Room (now slots) × Flags (now marks) ⌝ }
     ensures { λ b. ⌜ Decides (Chain (now (slots .entry)) (now (marks .entry)) first n) b ⌝ }
 {
-    let count = (slots.len() / 6) as u64;
+    let count = (slots.len() / SLOT_WORDS) as u64;
     let mut k = first;
     let mut rest = n;
     while k != 0 {
@@ -119,7 +119,7 @@ fn is_sound(words: &[u64]) -> bool
     requires { ⌜ right-length (length (now words)) ≡ true ⌝ }
     ensures { λ b. ⌜ Decides (IsSound (now (words .entry))) b ⌝ }
 {
-    let slots = &words[4..];
+    let slots = pool::slots(words);
     if !header(words, slots) {
         return false;
     }
@@ -131,7 +131,7 @@ fn is_sound(words: &[u64]) -> bool
         slots,
         &mut marks,
         words[1],
-        (slots.len() / 6) as u64 - words[2],
+        (slots.len() / SLOT_WORDS) as u64 - words[2],
     )
 }
 

@@ -2,6 +2,7 @@
 // pending nodes as a stack of their slots.
 use interval::Interval;
 use node::word;
+use rules::MOST_PENDING;
 ghost use mathlib.Core.Path.{_≡_};
 ghost use mathlib.Core.Bool.{cond};
 ghost use mathlib.Core.List.{List};
@@ -16,9 +17,6 @@ ghost use Rattle.interval.specs.Interval.{range-of};
 ghost use Rattle.walk.specs.Walk.{Stands, Leaves, next};
 ghost use Rattle.walk.specs.Inside.{Leads};
 
-// As many nodes as can be pending.
-pub const ROOM: usize = 16;
-
 // After a step: how many nodes are pending, the slot of the latest of them and the slot that was hit, each 0 for none.
 pub struct After {
     pub pending: usize,
@@ -27,7 +25,7 @@ pub struct After {
 }
 
 // Leaves the node in slot k pending above `pending` others, if there is one: how many are pending then.
-pub fn leave(stack: &mut [u64; ROOM], pending: usize, k: u64) -> usize
+pub fn leave(stack: &mut [u64; MOST_PENDING], pending: usize, k: u64) -> usize
     requires { ⌜ pending < most-pending ⌝ }
     ensures { λ n. ⌜ (now (stack .exit) ≡ set (now (stack .entry)) pending k) × (n ≡ cond (eqb k 0) pending (suc pending)) ⌝ }
 {
@@ -36,7 +34,7 @@ pub fn leave(stack: &mut [u64; ROOM], pending: usize, k: u64) -> usize
 }
 
 // Leaves nothing pending above `below` others, after a step that hit `hit`: the latest of these is the latest then.
-fn leave_none(stack: &[u64; ROOM], below: usize, hit: u64) -> After
+fn leave_none(stack: &[u64; MOST_PENDING], below: usize, hit: u64) -> After
     requires { ⌜ ((ss : List ℕ) × (s : Step) × Leads ss (now stack) below 0 0 hit s) ⌝ }
     ensures { λ a. ⌜ ((ss : List ℕ) (s : Step) → Leads ss (now (stack .entry)) below 0 0 hit s → Leaves ss (now (stack .entry)) a s) ⌝ }
 {
@@ -56,7 +54,7 @@ fn leave_none(stack: &[u64; ROOM], below: usize, hit: u64) -> After
 }
 
 // Leaves the node in slot k pending above `below` others, if there is one, after a step that hit `hit`.
-fn leave_one(stack: &mut [u64; ROOM], below: usize, k: u64, hit: u64) -> After
+fn leave_one(stack: &mut [u64; MOST_PENDING], below: usize, k: u64, hit: u64) -> After
     requires { ⌜ ((ss : List ℕ) × (s : Step) × Leads ss (now stack) below k 0 hit s) ⌝ }
     ensures { λ a. ⌜ ((ss : List ℕ) (s : Step) → Leads ss (now (stack .entry)) below k 0 hit s → Leaves ss (now (stack .exit)) a s) ⌝ }
 {
@@ -72,7 +70,13 @@ fn leave_one(stack: &mut [u64; ROOM], below: usize, k: u64, hit: u64) -> After
 }
 
 // Leaves two nodes pending above `below` others, left before right, each if there is one, after a step that hit `hit`.
-fn leave_both(stack: &mut [u64; ROOM], below: usize, left: u64, right: u64, hit: u64) -> After
+fn leave_both(
+    stack: &mut [u64; MOST_PENDING],
+    below: usize,
+    left: u64,
+    right: u64,
+    hit: u64,
+) -> After
     requires { ⌜ ((ss : List ℕ) × (s : Step) × Leads ss (now stack) below left right hit s) ⌝ }
     ensures { λ a. ⌜ ((ss : List ℕ) (s : Step) → Leads ss (now (stack .entry)) below left right hit s → Leaves ss (now (stack .exit)) a s) ⌝ }
 {
@@ -104,7 +108,7 @@ fn hit_at(slots: &[u64], k: u64, query: Interval) -> u64
 // left before right.
 pub fn step(
     slots: &[u64],
-    stack: &mut [u64; ROOM],
+    stack: &mut [u64; MOST_PENDING],
     pending: usize,
     top: u64,
     query: Interval,
@@ -138,7 +142,7 @@ pub fn step(
 // The next hit: steps until one hits or nothing is pending.
 pub fn next(
     slots: &[u64],
-    stack: &mut [u64; ROOM],
+    stack: &mut [u64; MOST_PENDING],
     pending: usize,
     top: u64,
     query: Interval,

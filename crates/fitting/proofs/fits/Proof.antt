@@ -4,6 +4,7 @@ use Prim.Native.Nat.{_*_, _≤_}
 use mathlib.Core.Path.{_∙_}
 use native.Mathlib.Omega.{arith}
 use lib.ListN.{length}
+use Rattle.rules.specs.Limits.{slot-words}
 use borrow.Author.Needs.{needs}
 use Rattle.fitting.proofs.fits.Statement.{statement}
 use Rattle.fitting.proofs.fits.Tie as tie
@@ -29,7 +30,7 @@ returns c =
 -- past the test both children are slots or none
 both-in : (c : tie.Else1)
     → let words = length (c .before .before .before .before .args .slots .now) in
-    (6 * c .before .before .left .result ≤ words) × (6 * c .before .right .result ≤ words)
+    (slot-words * c .before .before .left .result ≤ words) × (slot-words * c .before .right .result ≤ words)
 both-in c = within-words (c .if1 .left)
 
 fits-one-requires : tie.Need-fits-one-requires

@@ -25,6 +25,7 @@ use denote.Triple.Spec.{Meets, tripleOf}
 use denote.Triple.Table.{entered, cited}
 use denote.Triple.Walked.{needs, goes-none, goes-none-slice, goes-gave-ref, goes-slice, Walks, walked, walk-meets}
 use denote.Exit.{yes}
+use Rattle.rules.specs.Limits.{most-pending}
 use Rattle.interval.proofs.Interval as I
 use Rattle.interval.proofs.Interval.Laws as I′
 use Rattle.held.proofs.Locals.{Nodes}
@@ -57,7 +58,7 @@ module _ {M : Type 1} (𝓤 : URA M) (H : Heap 𝓤) (A : Atoms 𝓤) (W : Given
   fill-meets : Triple 𝓤 (𝓣 .C #held·go-on) (GoOn 𝓤 H A mem run) → Triple 𝓤 (𝓣 .C #held·rest) (Rest 𝓤 H A mem run)
       → Meets 𝓤 H A fill.signature (WpFn 𝓤 H (𝓣 .C) (𝓣 .Λ) code.function) (fill.spec 𝓤 H A mem run)
   fill-meets known-on known-rest = walk-meets 𝓤 H A fill.ended stayed W
-      (goes-none-slice 𝓤 H A W 3 (0 ∷ []) tt (plain (λ _. u64)) yes, (goes-none 𝓤 H A W 3 (λ _. I.the-row) yes (λ κs x f. refl), (goes-gave-ref 𝓤 H A W 3 1 tt (ArrayOf (plain (λ _. u64)) (λ _. tt) 16), (goes-none 𝓤 H A W 3 (λ _. F.the-row) yes (λ κs x f. refl), (goes-slice 𝓤 H A W 3 2 tt (plain (λ _. R.the-row)), tt)))))
+      (goes-none-slice 𝓤 H A W 3 (0 ∷ []) tt (plain (λ _. u64)) yes, (goes-none 𝓤 H A W 3 (λ _. I.the-row) yes (λ κs x f. refl), (goes-gave-ref 𝓤 H A W 3 1 tt (ArrayOf (plain (λ _. u64)) (λ _. tt) most-pending), (goes-none 𝓤 H A W 3 (λ _. F.the-row) yes (λ κs x f. refl), (goes-slice 𝓤 H A W 3 2 tt (plain (λ _. R.the-row)), tt)))))
       (fill.clauses 𝓤 H A mem run) (WpFn 𝓤 H (𝓣 .C) (𝓣 .Λ) code.function) (WpFn-mono 𝓤 H (W .laws) 𝓣 code.function)
       (subst (λ (fn : Fn). Walks 𝓤 H A fill.ended stayed (WpFn 𝓤 H (𝓣 .C) (𝓣 .Λ) fn) (fill.clauses 𝓤 H A mem run)) (sym is-spelt) (fill-walks known-on known-rest))
 

@@ -43,6 +43,7 @@ use denote.Triple.Table.{entered, cited}
 use denote.Triple.Walked.{says, needs, Stays, stay-none, stay-none-slice, gave-slice, walkOf, goes-none, goes-none-slice, goes-gave-slice, Walks, ends-at, walked, walk-meets}
 use denote.Exit.{yes}
 use denote.Triple.Clauses.{ensured, lasts}
+use Rattle.rules.specs.Limits.{most-pending}
 use Rattle.rules.specs.Tree.{Tree}
 use Rattle.rules.specs.Query.{hits}
 use Rattle.interval.specs.Interval.{range-of}
@@ -220,7 +221,7 @@ module _ {M : Type 1} (𝓤 : URA M) (H : Heap 𝓤) (A : Atoms 𝓤) (W : Given
       peeks ! B.the-row (Is B.the-row) (shows 𝓤 H A B.the-row) g (u ∷ []) (λ was. drop ! $
       land ! (from ! (stop !)) (init ! 16 refl (LL.lawful B.the-type B′.the-laws 𝓤 H A W .typed g _ was .0)) $ rewrite ! 16 (λ (z : Val). ‵ (fat fullShare B′.mir l₅ 0 z)) (ap only (LL.tells B.the-type B′.the-laws g (u ∷ []) was)) refl $
       -- [the slots' token; the slots; the rows' token; …; the rows; …; the locals]
-      assigns ! (of-opd ! (load ! (from ! (fld ! refl (stop !))) (look-in ! 16 (sub ! 0 refl (whole !))))) (from ! (stop !)) (init ! 14 refl (array-lawful 𝓤 H A W u64 (uint-lawful 𝓤 H A W w64) 16 .typed (words (g .nodes)) _ (LL.owed B.the-type B′.the-laws g _ (begun-is g u was) .0) .0)) $
+      assigns ! (of-opd ! (load ! (from ! (fld ! refl (stop !))) (look-in ! 16 (sub ! 0 refl (whole !))))) (from ! (stop !)) (init ! 14 refl (array-lawful 𝓤 H A W u64 (uint-lawful 𝓤 H A W w64) most-pending .typed (words (g .nodes)) _ (LL.owed B.the-type B′.the-laws g _ (begun-is g u was) .0) .0)) $
       assigns ! (addr ! (from ! (stop !))) (from ! (stop !)) (init ! 10 refl (tt, tt)) $
       assigns ! (addr ! (from ! (fld ! refl (hop ! (look-in ! 18 (sub ! 0 refl (whole !))) (stop !))))) (from ! (stop !)) (init ! 8 refl (tt, tt)) $
       assigns ! (agg ! (and-then ! (load ! (from ! (stop !)) (look ! 8 refl)) (and-then ! (load ! (from ! (fld ! refl (stop !))) (look-in ! 18 (sub ! 1 refl (whole !)))) (no-more !)))) (from ! (stop !)) (init ! 6 refl (tt, (tt, (record { fits = room .0 }, tt)))) $

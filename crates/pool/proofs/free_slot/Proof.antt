@@ -2,6 +2,7 @@
 use Prim.Native.Nat.{_-_, _*_}
 use native.Mathlib.Omega.{arith}
 use lib.ListN.{length-set}
+use Rattle.rules.specs.Limits.{slot-words}
 use Rattle.pool.specs.Around.{with-slot}
 use Rattle.pool.proofs.Freed.{six-stores}
 use borrow.Author.Needs.{needs}
@@ -70,7 +71,7 @@ same-length c = search needs
 
 returns : tie.Need-returns
 unfolding with-slot
-returns c = six-stores (c .args .slots .now) (6 * (c .args .s - 1)) 0 0 0 0 (c .args .next) 0
+returns c = six-stores (c .args .slots .now) (slot-words * (c .args .s - 1)) 0 0 0 0 (c .args .next) 0
 
 pub free-slot-spec : {M : Type 1} → statement M
 free-slot-spec =

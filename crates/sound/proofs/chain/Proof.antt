@@ -5,6 +5,7 @@ use mathlib.Core.Path.{sym, _∙_}
 use native.Mathlib.Omega.{arith}
 use lib.ListN.{length}
 use borrow.Author.Tests.{not-true, not-false}
+use Rattle.rules.specs.Limits.{slot-words}
 use Rattle.sound.proofs.Chains.{Turned, turn-none, turn-on, turn-in, turn-out, turn-not, turn-end}
 use Rattle.sound.proofs.chain.Statement.{statement}
 use Rattle.sound.proofs.chain.Tie as tie
@@ -19,7 +20,7 @@ abbrev μ-loop : tie.MeasureT-loop
 in-turn : (c : tie.Else1 Inv-loop μ-loop)
     → let start = c .before .before .before .before .before in
     (1 ≤ c .before .before .loop .k) × (1 ≤ c .before .before .loop .rest)
-    × (6 * c .before .before .loop .k ≤ length (start .args .slots .now))
+    × (slot-words * c .before .before .loop .k ≤ length (start .args .slots .now))
 in-turn c =
     let low : 1 ≤ c .before .before .loop .k = omega (arith, c .before .loop-test .taken) in
     let start = c .before .before .before .before .before in

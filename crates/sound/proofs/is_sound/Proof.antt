@@ -7,19 +7,13 @@ use Rattle.rules.specs.Limits.{most-slots}
 use borrow.Author.Needs.{needs}
 use borrow.Author.Tests.{not-true, not-false}
 use Rattle.sound.proofs.Marks.{blank, blank-flags}
-use Rattle.sound.proofs.Whole.{header-lent, after-header, lent-room, refused-header, root-ready, live-few}
+use Rattle.sound.proofs.Whole.{header-lent, lent-room, refused-header, root-ready, live-few}
 use Rattle.sound.proofs.Whole.{refused-tree, decided}
 use Rattle.sound.proofs.is_sound.Statement.{statement}
 use Rattle.sound.proofs.is_sound.Tie as tie
 
-sub-slots : tie.Need-sub-slots
-sub-slots c = header-lent (length (c .before .args .words .now)) (c .before .pre)
-
-part-slots-start : tie.Need-part-slots-start
-part-slots-start c = header-lent (length (c .before .args .words .now)) (c .before .pre)
-
-part-slots-end : tie.Need-part-slots-end
-part-slots-end c = search needs
+slots-requires : tie.Need-slots-requires
+slots-requires c κs = header-lent (length (c .before .args .words .now)) (c .before .pre)
 
 header-requires : tie.Need-header-requires
 header-requires c κs =
@@ -31,7 +25,7 @@ returns : tie.Need-returns
 returns c =
     let start = c .before .before .before .before in
     let ws = start .args .words .now in
-    refused-header ws _ (start .pre) (after-header ws) (sym (c .before .header .ensures) ∙ not-true _ (c .if1 .taken))
+    refused-header ws _ (start .pre) (c .before .before .slots .ensures) (sym (c .before .header .ensures) ∙ not-true _ (c .if1 .taken))
 
 slice-aggregate-tree : tie.Need-slice-aggregate-tree
 slice-aggregate-tree c = search needs
@@ -46,7 +40,7 @@ tree-requires c κs =
     let headed = c .before .before in
     let start = headed .before .before .before .before in
     let ws = start .args .words .now in
-    root-ready ws _ (start .pre) (after-header ws) (blank-flags (most-slots + 1) refl)
+    root-ready ws _ (start .pre) (headed .before .before .slots .ensures) (blank-flags (most-slots + 1) refl)
     (sym (headed .before .header .ensures) ∙ not-false _ (headed .if1 .left))
 
 returns-2 : tie.Need-returns-2
@@ -54,7 +48,7 @@ returns-2 c =
     let looked = c .before .before in
     let start = looked .before .before .before .before .before .before .before in
     let ws = start .args .words .now in
-    refused-tree ws _ (start .pre) (after-header ws) (blank (most-slots + 1)) (looked .tree .ensures)
+    refused-tree ws _ (start .pre) (looked .before .before .before .before .before .slots .ensures) (blank (most-slots + 1)) (looked .tree .ensures)
     (not-true _ (c .if2 .taken))
 
 slice-aggregate-chain : tie.Need-slice-aggregate-chain
@@ -77,7 +71,7 @@ sub-chain c =
     let headed = c .before .before .before .before .before .before .before .before in
     let start = headed .before .before .before .before in
     let ws = start .args .words .now in
-    live-few ws _ (start .pre) (after-header ws)
+    live-few ws _ (start .pre) (headed .before .before .slots .ensures)
     (sym (headed .before .header .ensures) ∙ not-false _ (headed .if1 .left))
 
 chain-requires : tie.Need-chain-requires
@@ -85,7 +79,7 @@ chain-requires c κs =
     let looked = c .before .before .before .before .before in
     let start = looked .before .before .before .before .before .before .before in
     let ws = start .args .words .now in (
-      lent-room ws _ (start .pre) (after-header ws),
+      lent-room ws _ (start .pre) (looked .before .before .before .before .before .slots .ensures),
       looked .tree .ensures .accepted (not-false _ (c .before .before .before .if2 .left)) .2 .flags,
     )
 
@@ -95,7 +89,7 @@ returns-3 c =
     let headed = looked .before .before .before in
     let start = headed .before .before .before .before in
     let ws = start .args .words .now in
-    decided ws _ (start .pre) (after-header ws) (blank (most-slots + 1))
+    decided ws _ (start .pre) (headed .before .before .slots .ensures) (blank (most-slots + 1))
     (sym (headed .before .header .ensures) ∙ not-false _ (headed .if1 .left))
     (looked .tree .ensures)
     (not-false _ (c .before .before .before .before .before .if2 .left))
@@ -105,9 +99,7 @@ pub is-sound-spec : {M : Type 1} → statement M
 is-sound-spec =
     tie.close
     (tie.spec
-    sub-slots
-    part-slots-start
-    part-slots-end
+    slots-requires
     header-requires
     returns
     slice-aggregate-tree

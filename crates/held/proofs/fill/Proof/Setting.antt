@@ -19,6 +19,7 @@ use denote.Triple.Statement.{Contract}
 use denote.Triple.Spec.{tripleOf}
 use denote.Triple.Walked.{Stays, stay-none, stay-none-slice, gave-ref, stay-slice}
 use denote.Exit.{yes}
+use Rattle.rules.specs.Limits.{most-pending}
 use Rattle.rules.specs.Range.{Range}
 use Rattle.rules.specs.Tree.{Tree}
 use Rattle.rules.specs.Query.{hits}
@@ -41,7 +42,7 @@ use Rattle.held.proofs.fill.Code as code
 use Rattle.held.proofs.fill.Code.Mir as steps
 
 abbrev pub stayed : Stays (fill.ended .signature .params) (fill.ended .kept)
-stayed = (stay-none-slice (0 ∷ []) tt (plain (λ _. u64)) yes, (stay-none (λ _. I.the-row) yes, (gave-ref (1 ∷ []) tt (ArrayOf (plain (λ _. u64)) (λ _. tt) 16), (stay-none (λ _. F.the-row) yes, (stay-slice (2 ∷ []) tt (plain (λ _. R.the-row)), tt)))))
+stayed = (stay-none-slice (0 ∷ []) tt (plain (λ _. u64)) yes, (stay-none (λ _. I.the-row) yes, (gave-ref (1 ∷ []) tt (ArrayOf (plain (λ _. u64)) (λ _. tt) most-pending), (stay-none (λ _. F.the-row) yes, (stay-slice (2 ∷ []) tt (plain (λ _. R.the-row)), tt)))))
 
 -- the function, with its locals' types spelled out
 abbrev pub spelt : Fn

@@ -7,15 +7,16 @@ use mathlib.Core.Path.{_≡_, refl}
 use borrow.Author.Tests.{ne-eqb}
 use Rattle.rules.specs.Range.{Range, Order, less, same, more, range, order, is-less}
 use Rattle.rules.specs.Pool.{ascending}
+use Rattle.rules.specs.Held.{entry-at}
 use Rattle.rules.specs.Stored.{slot-word}
 use Rattle.rules.proofs.Tests.{eq-cases}
 use Rattle.interval.specs.Interval.{range-of, order-of}
 use Rattle.interval.specs.declared.Interval.{Interval}
 use Rattle.interval.specs.declared.Ordering.{Ordering}
-use Rattle.clauses.specs.Slot.{entry-in, bound}
+use Rattle.clauses.specs.Slot.{bound}
 
 -- the entry in a slot is a bound, and none is none
-pub bound-some : (ss : List ℕ) (k : ℕ) → (k ≡ 0 → ⊥) → bound ss k ≡ entry-in ss k ∷ []
+pub bound-some : (ss : List ℕ) (k : ℕ) → (k ≡ 0 → ⊥) → bound ss k ≡ entry-at ss k ∷ []
 unfolding bound
 bound-some ss k h = rw (ne-eqb k 0 h) refl
 

@@ -6,18 +6,14 @@ use mathlib.Core.List.{List, [], _∷_}
 use lib.Dec.{leb, eqb}
 use lib.ListN.{length, getD}
 use Rattle.rules.specs.Limits.{most-pending, slot-words}
-use Rattle.rules.specs.Range.{range}
 use Rattle.rules.specs.Tree.{Entry}
+use Rattle.rules.specs.Held.{entry-at}
 use Rattle.rules.specs.Stored.{slot-word}
 use Rattle.node.specs.Node.{levels-at, size-at}
 
--- the entry in slot s
-abbrev pub entry-in : List ℕ → ℕ → Entry
-entry-in ss s = record { slot = s; range = range (slot-word ss s 0) (slot-word ss s 1); value = slot-word ss s 2 }
-
 -- the entry in slot s as a list, none for 0
 unfoldable pub bound : List ℕ → ℕ → List Entry
-bound ss s = cond (eqb s 0) [] (entry-in ss s ∷ [])
+bound ss s = cond (eqb s 0) [] (entry-at ss s ∷ [])
 
 -- "A free slot has zeros, except that links holds the next free slot."
 unfoldable pub zeros-here : List ℕ → ℕ → Bool

@@ -11,12 +11,14 @@ use borrow.Author.Tests.{ne-eqb}
 use lib.ListN.{length, length-append, replicate}
 use Rattle.rules.specs.Limits.{most-slots, most-pending}
 use Rattle.rules.specs.Range.{Range}
-use Rattle.rules.specs.Tree.{Entry, Tree, leaf, node}
+use Rattle.rules.specs.Tree.{Entry, Tree}
+use Rattle.rules.specs.Edit.{is-some}
 use Rattle.rules.specs.Query.{hits}
 use Rattle.rules.specs.Steps.{Pending, with-hit, at-start, Each, each-none, In-order, all-hits}
 use Rattle.rules.specs.Entries.{rows-into}
 use Rattle.rules.specs.Stored.{slot-word}
 use Rattle.rules.proofs.Pending.{each-at-start, in-order-down}
+use Rattle.rules.proofs.Steps.{hit-before, start-hits}
 use Rattle.walk.specs.Walk.{Stands, Hit, no-hit, hit-in, Walkable, next}
 use Rattle.rows.specs.Rows.{with-hit-row}
 use Rattle.rows.proofs.Lines.{no-room}
@@ -26,17 +28,7 @@ use Rattle.walk.proofs.Stack.{none-pending}
 use Rattle.held.specs.declared.Hit.{Hit as Row}
 use Rattle.held.specs.declared.Filling.{Filling}
 use Rattle.held.specs.Held.{first-of}
-use Rattle.held.specs.Records.{is-hit, is-written, record-of, Sought, Ahead}
-
--- a hit, if there is one, before others
-hit-before : (o : Option Entry) (es : List Entry) → with-hit o [] ++ es ≡ with-hit o es
-hit-before none es = refl
-hit-before (some e) es = refl
-
--- at the start all hits are those of the pending tree
-start-hits : (q : Range) (t : Tree) → all-hits q (at-start t) ≡ hits q t
-start-hits q leaf = refl
-start-hits q (node e l r) = append-nil (hits q (node e l r))
+use Rattle.held.specs.Records.{is-written, record-of, Sought, Ahead}
 
 -- the hits of a tree that can be walked can be counted
 few : {ss : List ℕ} {k : ℕ} {t : Tree} (q : Range) → Walkable ss k t → length (hits q t) ≤ most-slots
@@ -58,17 +50,17 @@ few {ss} {k} {t} q h = walk-few over h
         }
 
 -- a hit that isn't there is none
-no-hit-none : (o : Option Entry) → is-hit o ≡ false → o ≡ none
+no-hit-none : (o : Option Entry) → is-some o ≡ false → o ≡ none
 no-hit-none none h = refl
 no-hit-none (some e) h = let z : _≡_ {A = ℕ} 1 0 = ap (λ b. cond b 1 0) h in absurd (omega arith)
 
 -- and then none is to come
 none-to-come :
-    (q : Range) {p : Pending} → Each In-order p → is-hit (next q p .hit) ≡ false → all-hits q (next q p .pending) ≡ []
+    (q : Range) {p : Pending} → Each In-order p → is-some (next q p .hit) ≡ false → all-hits q (next q p .pending) ≡ []
 none-to-come q {p} ordered h = ap (all-hits q) (next-over in-order-down q ordered (no-hit-none (next q p .hit) h))
 
 -- the first hit is the first of all
-first-is : (o : Option Entry) {es : List Entry} → (is-hit o ≡ false → es ≡ []) → o ≡ first-of (with-hit o es)
+first-is : (o : Option Entry) {es : List Entry} → (is-some o ≡ false → es ≡ []) → o ≡ first-of (with-hit o es)
 first-is none last = rw (last refl)
 first-is (some e) last = refl
 
@@ -139,7 +131,7 @@ module _ {ss stack : List ℕ} {q : Range} {t : Tree} {f : Filling} (a : Ahead s
       omega (arith, ap length (a .all), length-append (a .done) (with-hit (a .found) (all-hits q (a .on))))
 
 -- what is counted with a hit, if there is one
-one-more : (o : Option Entry) (n : ℕ) → cond (is-hit o) (suc n) n ≡ n + length (with-hit o [])
+one-more : (o : Option Entry) (n : ℕ) → cond (is-some o) (suc n) n ≡ n + length (with-hit o [])
 one-more none n = omega arith
 one-more (some e) n = omega arith
 
@@ -173,7 +165,7 @@ rest-start {q = q} {f = f} a =
     }
 
 -- a slot number is 0 where there is no hit
-pub is-slot : {ss : List ℕ} {k : ℕ} {o : Option Entry} → Hit ss k o → not (eqb k 0) ≡ is-hit o
+pub is-slot : {ss : List ℕ} {k : ℕ} {o : Option Entry} → Hit ss k o → not (eqb k 0) ≡ is-some o
 is-slot no-hit = refl
 is-slot (hit-in {e} b) = let from-one = b .at .from-one in ap not (ne-eqb (e .slot) 0 (λ z. omega arith))
 

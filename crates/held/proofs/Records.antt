@@ -11,12 +11,13 @@ use lib.ListN.{length, set, take, length-set}
 use borrow.Author.Tests.{ltb-true, ltb-false}
 use Rattle.rules.specs.Range.{Range}
 use Rattle.rules.specs.Tree.{Entry, Tree}
+use Rattle.rules.specs.Edit.{is-some}
 use Rattle.rules.specs.Query.{hits}
 use Rattle.rules.specs.Steps.{with-hit, all-hits}
 use Rattle.rules.specs.Entries.{rows-into}
 use Rattle.held.specs.declared.Hit.{Hit}
 use Rattle.held.specs.declared.Filling.{Filling}
-use Rattle.held.specs.Records.{hit-of, records-into, words-of, record-of, is-hit, is-written, Ahead}
+use Rattle.held.specs.Records.{hit-of, records-into, words-of, record-of, is-written, Ahead}
 
 -- rows as words are the records taken apart
 pub rows-are-records : (es : List Entry) (rows : List Hit) → words-of (records-into es rows) ≡ rows-into es (words-of rows)
@@ -55,7 +56,7 @@ is-room none n m h = let z : _≡_ {A = ℕ} 0 1 = ap (λ b. cond b 1 0) h in ab
 is-room (some e) n m h = ltb-true n m h
 
 -- and one that isn't to be written isn't there, or has no room
-not-written : (o : Option Entry) (n m : ℕ) → is-written o n m ≡ false → (is-hit o ≡ false) ⊎ (m ≤ n)
+not-written : (o : Option Entry) (n m : ℕ) → is-written o n m ≡ false → (is-some o ≡ false) ⊎ (m ≤ n)
 not-written none n m h = inl refl
 not-written (some e) n m h = inr (ltb-false n m h)
 
@@ -72,7 +73,7 @@ with-record {hs} {n} {m} (some e) done more rows all counted h room =
 
 -- where no hit is left all are done
 all-done :
-    {hs more : List Entry} {n : ℕ} (done : List Entry) (o : Option Entry) → is-hit o ≡ false → more ≡ [] → done ++ with-hit o more ≡ hs
+    {hs more : List Entry} {n : ℕ} (done : List Entry) (o : Option Entry) → is-some o ≡ false → more ≡ [] → done ++ with-hit o more ≡ hs
     → n ≡ length done → take n hs ≡ hs
 all-done {hs} {more} {n} done none gone over all counted =
     let same : hs ≡ done = sym all ∙ ap (λ es. done ++ es) over ∙ append-nil done in

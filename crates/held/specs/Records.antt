@@ -1,7 +1,7 @@
 -- The hits as records: document 01, "Besides the words form, a query fills a lent list of hit records, same order and
 -- counts." And what the functions that fill such a list promise each other.
 use Prim.Native.Nat.{ℕ, _≤_}
-use mathlib.Core.Bool.{Bool, true, false, _&&_}
+use mathlib.Core.Bool.{Bool, false, _&&_}
 use mathlib.Core.List.{List, [], _∷_, _++_}
 use mathlib.Core.Option.{Option, none, some}
 use mathlib.Core.Path.{_≡_}
@@ -10,6 +10,7 @@ use lib.ListN.{length}
 use Rattle.rules.specs.Limits.{most-slots}
 use Rattle.rules.specs.Range.{Range}
 use Rattle.rules.specs.Tree.{Entry, Tree}
+use Rattle.rules.specs.Edit.{is-some}
 use Rattle.rules.specs.Query.{hits}
 use Rattle.rules.specs.Steps.{Pending, Step, with-hit, Each, In-order, all-hits}
 use Rattle.walk.specs.Walk.{Stands}
@@ -36,20 +37,15 @@ abbrev pub record-of : Option Entry → Hit
 record-of none = record { start = 0; end = 0; value = 0 }
 record-of (some e) = hit-of e
 
--- whether there is a hit
-abbrev pub is-hit : Option Entry → Bool
-is-hit none = false
-is-hit (some e) = true
-
 -- a hit that is there is to be written where there is room for one more record
 abbrev pub is-written : Option Entry → ℕ → ℕ → Bool
-is-written o count room = is-hit o && ltb count room
+is-written o count room = is-some o && ltb count room
 
 -- what was found is what the step hit, and the walk stands at the nodes pending after it
 pub record Sought (ss stack : List ℕ) (f : Filling) (after : Step) : Type 0 where
   pub stands : Stands ss stack (f .pending) (f .top) (after .pending)
   pub row : f .row ≡ record-of (after .hit)
-  pub there : f .there ≡ is-hit (after .hit)
+  pub there : f .there ≡ is-some (after .hit)
   pub fits : f .fits ≡ is-written (after .hit) (f .count) (f .room)
 
 -- A query on its way through t: `done` are counted, `found` is the latest hit, and the others are those of the pending
@@ -63,7 +59,7 @@ pub record Ahead (ss stack : List ℕ) (q : Range) (t : Tree) (f : Filling) : Ty
   pub all : done ++ with-hit found (all-hits q on) ≡ hits q t
   pub counted : f .count ≡ length done
   pub row : f .row ≡ record-of found
-  pub there : f .there ≡ is-hit found
+  pub there : f .there ≡ is-some found
   pub fits : f .fits ≡ is-written found (f .count) (f .room)
-  pub last : is-hit found ≡ false → all-hits q on ≡ []
+  pub last : is-some found ≡ false → all-hits q on ≡ []
   pub few : length (hits q t) ≤ most-slots

@@ -6,10 +6,9 @@ use mathlib.Core.Path.{_≡_, refl, sym}
 use native.Mathlib.Omega.{arith}
 use lib.Dec.{ltb, eqb}
 use borrow.Author.Tests.{lt-ltb, le-ltb, eq-eqb, ne-eqb, ltb-true}
-use Rattle.rules.specs.Range.{range, order, order-numbers, then, is-less}
+use Rattle.rules.specs.Range.{range, order, order-numbers, then, is-less, is-same}
 use Rattle.rules.proofs.Order.{Stands, below, level, above, numbers}
 use Rattle.rules.proofs.Tests.{lt-cases, and-true}
-use Rattle.interval.specs.Interval.{is-same}
 
 module _ (a b c d : ℕ) where
   -- where the starts are equal, the ends say which range comes before

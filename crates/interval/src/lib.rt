@@ -1,8 +1,8 @@
 // interval.rs of the crate: a range of track, its order, and what two ranges share.
 ghost use mathlib.Core.Path.{_≡_};
 ghost use Prim.Native.Nat.{max, min};
-ghost use Rattle.rules.specs.Range.{range, order, is-less, is-valid, overlaps, intersect, range-to, included};
-ghost use Rattle.interval.specs.Interval.{range-of, order-of, shared-of, included-of, is-same};
+ghost use Rattle.rules.specs.Range.{range, order, is-less, is-same, is-valid, overlaps, intersect, range-to, included};
+ghost use Rattle.interval.specs.Interval.{range-of, order-of, shared-of, included-of};
 
 // How two ranges stand.
 pub enum Ordering {

@@ -2,20 +2,21 @@
 -- nothing.
 use Prim.Native.Nat.{ℕ, suc, _+_, _≤_, _<_}
 use mathlib.Core.Bool.{cond}
-use mathlib.Core.List.{List, [], _∷_, _++_, append-assoc, append-nil}
-use mathlib.Core.Option.{Option, none, some}
+use mathlib.Core.List.{List, [], _++_, append-assoc, append-nil}
+use mathlib.Core.Option.{Option}
 use mathlib.Core.Path.{_≡_, refl, sym, ap, _∙_}
 use native.Mathlib.Omega.{arith}
 use lib.Dec.{eqb}
 use lib.ListN.{length, take, set, length-append}
 use Rattle.rules.specs.Limits.{most-slots, most-pending}
 use Rattle.rules.specs.Range.{Range}
-use Rattle.rules.specs.Tree.{Entry, Tree, leaf, node}
+use Rattle.rules.specs.Tree.{Entry, Tree}
 use Rattle.rules.specs.Query.{hits}
 use Rattle.rules.specs.Steps.{Pending, at-start, with-hit, Each, each-none, each-more, In-order, all-hits, total}
 use Rattle.rules.specs.Entries.{rows-into}
 use Rattle.rules.proofs.Hits.{few-hits}
 use Rattle.rules.proofs.Pending.{each-at-start, in-order-down, Fits, fits-down}
+use Rattle.rules.proofs.Steps.{hit-before, start-hits}
 use Rattle.node.proofs.Few.{few-entries}
 use Rattle.walk.specs.declared.After.{After}
 use Rattle.walk.specs.Walk.{Stands, Hit, Leaves, next, Walkable}
@@ -35,11 +36,6 @@ pub record Walks (ss stack : List ℕ) (n top : ℕ) (q : Range) (t : Tree) (sta
   pub counted : count ≡ length done
   pub written : run ≡ rows-into done start
 
--- at the start all hits are those of the pending tree
-start-hits : (q : Range) (t : Tree) → all-hits q (at-start t) ≡ hits q t
-start-hits q leaf = refl
-start-hits q (node e l r) = append-nil (hits q (node e l r))
-
 -- at the start nothing is counted or written
 pub walk-start :
     {ss run : List ℕ} {k : ℕ} {t : Tree} (q : Range) (stack : List ℕ) → Walkable ss k t → length stack ≡ most-pending
@@ -54,11 +50,6 @@ walk-start {t = t} q stack w long =
       counted = refl;
       written = refl;
     }
-
--- a hit, if there is one, before others
-hit-before : (o : Option Entry) (es : List Entry) → with-hit o [] ++ es ≡ with-hit o es
-hit-before none es = refl
-hit-before (some e) es = refl
 
 module _ {ss stack start run : List ℕ} {n top count : ℕ} {q : Range} {t : Tree}
     (w : Walks ss stack n top q t start run count) where

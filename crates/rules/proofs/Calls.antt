@@ -7,7 +7,8 @@ use lib.ListN.{length, replicate}
 use Rattle.rules.specs.Range.{End, excluded, order, order-numbers, range-to, overlaps}
 use Rattle.rules.specs.Balance.{balance}
 use Rattle.rules.specs.Pool.{words, capacity, right-length, good}
-use Rattle.rules.specs.Held.{held, reading, tree-at, chain-at, word}
+use Rattle.rules.specs.Held.{held, reading, tree-at, chain-at}
+use Rattle.rules.specs.Stored.{slot-word}
 use Rattle.rules.specs.Request.{Request, inserting, deleting, serve}
 use Rattle.rules.specs.Record.{reads}
 use Rattle.rules.specs.Entries.{Told, Queried, Applied, Fed}
@@ -17,7 +18,7 @@ use Rattle.rules.specs.Entries.{format, check, edit, size-of, height-of,
 unfoldable pub entries-computed : ℕ
 unfolding
     format check edit size-of height-of is-empty query apply feed
-    serve reads held reading tree-at chain-at word words capacity right-length good
+    serve reads held reading tree-at chain-at slot-word words capacity right-length good
     balance order order-numbers range-to overlaps
 entries-computed = 0
 

@@ -12,12 +12,12 @@ use native.Mathlib.Omega.{arith}
 use lib.Dec.{eqb}
 use lib.ListN.{length}
 use Rattle.rules.specs.Limits.{most-slots}
-use Rattle.rules.specs.Range.{Range, Order, less, same, more, order, End, range-to}
+use Rattle.rules.specs.Range.{Range, Order, less, same, more, order, is-same, End, range-to}
 use Rattle.rules.specs.Tree.{Entry, entries}
 use Rattle.rules.specs.Pool.{Pool, words, capacity, right-length, Holds, fresh}
 use Rattle.rules.specs.Request.{inserting}
 use Rattle.rules.specs.Entries.{format, check, edit, size-of, is-empty, query, apply}
-use Rattle.rules.specs.History.{Row, is-same, holds, Event, account-event, history}
+use Rattle.rules.specs.History.{Row, holds, Event, account-event, history}
 use Rattle.rules.specs.Calls.{call, calls}
 use Rattle.rules.proofs.Rows.{row-of, rows-of, length-rows}
 use Rattle.rules.proofs.Held.{holds-held}

@@ -1,14 +1,13 @@
 -- The rows of a tree, as the history has them: each edit of a tree in strict order does to its rows what the history's
 -- own rules do. Assumes nothing.
-use mathlib.Core.Bool.{Bool, true, false}
+use mathlib.Core.Bool.{true, false}
 use mathlib.Core.List.{List, [], _∷_, _++_, map}
-use mathlib.Core.Option.{Option, none, some}
 use mathlib.Core.Path.{_≡_, refl, sym, _∙_, ap}
 use lib.ListN.{length, length-map}
 use Rattle.rules.specs.Range.{Range, same, order}
 use Rattle.rules.specs.Tree.{Entry, Tree, node, size, entries}
 use Rattle.rules.specs.Balance.{Side, left, right}
-use Rattle.rules.specs.Edit.{find, insert, outermost, shed, delete}
+use Rattle.rules.specs.Edit.{find, is-some, insert, outermost, shed, delete}
 use Rattle.rules.specs.Pool.{ascending}
 use Rattle.rules.specs.Request.{changed}
 use Rattle.rules.specs.History.{Row, holds, added, removed, all-but-last, remove-end}
@@ -64,10 +63,6 @@ rows-cut-out k (upon {x = x} p) (ascending-cons a b) = rw p (sym (removed-over k
 rows-cut-out k (past {x = x} p w) (ascending-cons a b) = rw p (ap (row-of x ∷_) (rows-cut-out k w b))
 
 -- a row is held exactly where an entry is found
-abbrev pub is-some {ℓ} : {A : Type ℓ} → Option A → Bool
-is-some none = false
-is-some (some x) = true
-
 pub holds-look-up : (k : Range) {es : List Entry} → Along k es → Ascending es →
     holds k (map row-of es) ≡ is-some (look-up k es)
 holds-look-up k run-out a = refl

@@ -2,22 +2,16 @@
 -- the word that the pool fixes for it. Assumes nothing.
 use Prim.Native.Nat.{ℕ, zero, suc, _+_, _-_, _*_, _/_, _%_, _≤_, _<_}
 use mathlib.Core.List.{List, _∷_}
-use mathlib.Core.Path.{_≡_, refl, sym, ap, _∙_}
+use mathlib.Core.Path.{_≡_, refl, sym, _∙_}
 use native.Mathlib.Nat.{zero-add, add-zero, add-suc, suc-add}
 use native.Mathlib.Omega.{arith}
 use lib.ListN.{length, getD, drop, length-drop, List·getD-append}
-use lib.Seq.{getD-drop, getD-append-add, drop-cons, ext-getD}
+use lib.Seq.{getD-append-add, drop-cons, ext-getD}
 use Rattle.rules.specs.Limits.{header-words, slot-words}
 use Rattle.rules.specs.Tree.{size, root}
 use Rattle.rules.specs.Pool.{Pool, first, slot-at, slots-from, words}
-use Rattle.rules.specs.Held.{word}
 use Rattle.rules.specs.Stored.{slot-word}
 use Rattle.rules.proofs.Lengths.{length-slot-of, length-slots-from}
-
--- the slots are the words after the header
-pub word-slot-word : (ws : List ℕ) (s i : ℕ) → word ws s i ≡ slot-word (drop header-words ws) s i
-unfolding word slot-word
-word-slot-word ws s i = rw getD-drop (ap (λ n. getD ws n 0) (omega arith))
 
 -- the words of the k-th slot of a run of slots
 word-from : (n s k i : ℕ) (p : Pool) → k < n → i < slot-words
@@ -74,16 +68,17 @@ headed c p = record { root-word = refl; free-word = refl; live-word = refl; zero
 
 -- so are the words of its slots
 pub word-of : (c s i : ℕ) (p : Pool) → 1 ≤ s → s ≤ c → i < slot-words
-    → word (words c p) s i ≡ getD (slot-at s p) i 0
+    → slot-word (drop header-words (words c p)) s i ≡ getD (slot-at s p) i 0
 unfolding words
-word-of c s i p low high j = word-slot-word (words c p) s i ∙ slot-words-of c s i p low high j
+word-of c s i p low high j = slot-words-of c s i p low high j
 
 -- and by their places the words of a pool are known
 pub words-by-place : (c : ℕ) (p : Pool) (ws : List ℕ) → length ws ≡ header-words + slot-words * c → Headed ws p
-    → ((s i : ℕ) → 1 ≤ s → s ≤ c → i < slot-words → word ws s i ≡ getD (slot-at s p) i 0) → ws ≡ words c p
+    → ((s i : ℕ) → 1 ≤ s → s ≤ c → i < slot-words → slot-word (drop header-words ws) s i ≡ getD (slot-at s p) i 0)
+    → ws ≡ words c p
 unfolding words
 words-by-place c p ws h head same =
     let rest : drop header-words ws ≡ slots-from c 1 p =
     same-slots c (drop header-words ws) (slots-from c 1 p) (rw length-drop (omega arith)) (length-slots-from c 1 p)
-    (λ s i low high j. sym (word-slot-word ws s i) ∙ same s i low high j ∙ sym (slot-words-of c s i p low high j)) in
+    (λ s i low high j. same s i low high j ∙ sym (slot-words-of c s i p low high j)) in
     cc (split-header ws (omega arith))

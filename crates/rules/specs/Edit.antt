@@ -1,4 +1,5 @@
 -- Insert and the three removals: document 01, "Tree rules".
+use mathlib.Core.Bool.{Bool, true, false}
 use mathlib.Core.Option.{Option, none, some}
 use Rattle.rules.specs.Range.{Range, order, choose}
 use Rattle.rules.specs.Tree.{Entry, Tree, leaf, node}
@@ -8,6 +9,11 @@ use Rattle.rules.specs.Balance.{Side, left, near, far, balance, balanced
 abbrev pub find : Range → Tree → Option Entry
 find k leaf = none
 find k (node e l r) = choose (order k (e .range)) (find k l) (some e) (find k r)
+
+-- whether an entry was found
+abbrev pub is-some : Option Entry → Bool
+is-some none = false
+is-some (some e) = true
 
 -- "Insert goes down by the order; an equal range keeps the old value and the new one is dropped.
 -- Each ancestor is updated, then balanced."

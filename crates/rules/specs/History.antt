@@ -1,10 +1,10 @@
 -- The history of demand 3: which ranges are held, with their values, by the requests and the range rules alone.
 use Prim.Native.Nat.{ℕ}
-use mathlib.Core.Bool.{Bool, true, false, cond, _||_}
+use mathlib.Core.Bool.{Bool, false, cond, _||_}
 use mathlib.Core.List.{List, [], _∷_}
 use lib.Dec.{leb}
 use lib.ListN.{length}
-use Rattle.rules.specs.Range.{Range, Order, less, same, more, order, choose, range-to}
+use Rattle.rules.specs.Range.{Range, order, choose, is-same, range-to}
 use Rattle.rules.specs.Balance.{Side, near}
 use Rattle.rules.specs.Query.{overlapping}
 use Rattle.rules.specs.Request.{Request, inserting, deleting, deleting-end, clearing, querying}
@@ -16,11 +16,6 @@ use Rattle.rules.specs.Feed.{Feeding, feed-turns}
 pub record Row : Type 0 where
   pub range : Range
   pub value : ℕ
-
-abbrev pub is-same : Order → Bool
-is-same less = false
-is-same same = true
-is-same more = false
 
 -- whether the range went in and was not removed
 abbrev pub holds : Range → List Row → Bool

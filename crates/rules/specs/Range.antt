@@ -42,6 +42,12 @@ is-less less = true
 is-less same = false
 is-less more = false
 
+-- whether two are equal
+abbrev pub is-same : Order → Bool
+is-same less = false
+is-same same = true
+is-same more = false
+
 -- `is_valid` of the crate: the start is below the end. "Empty and inverted ranges may be stored."
 abbrev pub is-valid : Range → Bool
 is-valid r = ltb (r .start) (r .end)

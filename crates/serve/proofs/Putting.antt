@@ -9,7 +9,7 @@ use lib.ListN.{length, getD, take, drop}
 use Rattle.rules.specs.Limits.{header-words, most-slots, half}
 use Rattle.rules.specs.Range.{Range, excluded, range-to}
 use Rattle.rules.specs.Tree.{Entry, Tree}
-use Rattle.rules.specs.Edit.{find, insert}
+use Rattle.rules.specs.Edit.{find, is-some, insert}
 use Rattle.rules.specs.Pool.{Pool, pool, capacity, good, times, slots, first, Holds}
 use Rattle.rules.specs.Request.{inserting, serve, insert-into}
 use Rattle.rules.specs.Stored.{slot-word, Within, Chained, goes-on, Left}
@@ -22,7 +22,7 @@ use Rattle.rules.proofs.Stored.{holds-laid}
 use Rattle.node.specs.Node.{entry}
 use Rattle.pool.specs.Around.{Header, Claimed}
 use Rattle.pool.proofs.Chains.{chained-kept}
-use Rattle.tree.specs.Edits.{is-some, Inserting, Inserts}
+use Rattle.tree.specs.Edits.{Inserting, Inserts}
 use Rattle.tree.proofs.Inserting.{times-inserted}
 use Rattle.serve.specs.Answers.{Answers}
 use Rattle.request.specs.declared.Answer.the-variants.{Done, There, Full}

@@ -12,12 +12,12 @@ ghost use Rattle.rules.specs.Limits.{header-words};
 ghost use Rattle.rules.specs.Tree.{Tree, levels};
 ghost use Rattle.rules.specs.Stored.{slot-word, Within, Rooted};
 ghost use Rattle.rules.specs.Pool.{Pool, Holds, capacity, fresh};
-ghost use Rattle.rules.specs.Edit.{find};
+ghost use Rattle.rules.specs.Edit.{find, is-some};
 ghost use Rattle.rules.specs.Request.{serve, changed, insert-into, delete-from, delete-end-from};
 ghost use Rattle.node.specs.Node.{entry};
 ghost use Rattle.interval.specs.Interval.{range-of};
 ghost use Rattle.balance.specs.Sides.{side-of};
-ghost use Rattle.tree.specs.Edits.{is-some, Standing, Inserting, Inserts, Deletes, Sheds};
+ghost use Rattle.tree.specs.Edits.{Standing, Inserting, Inserts, Deletes, Sheds};
 ghost use Rattle.request.specs.Requests.{request-of};
 ghost use Rattle.serve.specs.Answers.{Answers};
 

@@ -10,25 +10,23 @@ use borrow.Author.Tests.{le-leb, leb-true}
 use Rattle.rules.specs.Limits.{most-slots, slot-words, half}
 use Rattle.rules.specs.Tree.{Entry, Tree, node, levels, size, entries, root}
 use Rattle.rules.specs.Pool.{balanced, times, slots}
+use Rattle.rules.specs.Held.{entry-at}
 use Rattle.rules.specs.Stored.{slot-word, Within, Bears, Links, Stored, none, live, Distinct, Rooted}
 use Rattle.rules.proofs.Tests.{and-true, true-and}
 use Rattle.rules.proofs.Times.{times-node}
-use Rattle.rules.proofs.Reading.{low-half, high-half, root-fits, tree-read}
+use Rattle.rules.proofs.Reading.{low-half, high-half, root-fits, entry-read, tree-read}
 use Rattle.node.proofs.Trees.{at-root}
-use Rattle.clauses.specs.Slot.{entry-in, bound}
+use Rattle.clauses.specs.Slot.{bound}
 use Rattle.fitting.specs.Fits.{left-in, right-in}
 use Rattle.sound.specs.Claims.{Grown}
 use Rattle.clauses.proofs.Bounds.{bound-some}
 use Rattle.sound.proofs.Split.{join-order, split-order}
 use Rattle.fitting.proofs.Nodes.{Fitting}
 
--- a stored entry is the one in its slot
-bears-entry : {ss : List ℕ} {e : Entry} → Bears ss e → e ≡ entry-in ss (e .slot)
-bears-entry b = simp (b .start-word, b .end-word, b .value-word)
-
+-- a stored entry is a bound
 bound-entry : {ss : List ℕ} {e : Entry} → Bears ss e → bound ss (e .slot) ≡ e ∷ []
 bound-entry {ss} {e} b =
-    bound-some ss (e .slot) (λ z. omega (arith, b .at .from-one)) ∙ ap (λ x. x ∷ []) (sym (bears-entry b))
+    bound-some ss (e .slot) (λ z. omega (arith, b .at .from-one)) ∙ ap (λ x. x ∷ []) (entry-read b)
 
 -- a word is its halves
 halves : (w a b : ℕ) → w % half ≡ a → w / half ≡ b → w ≡ a + half * b
@@ -37,7 +35,7 @@ halves w a b p q = omega arith
 module _ {ss : List ℕ} {k before after : ℕ} (w : Within ss k) (f : Fitting ss k) where
   -- two children grown around the entry in slot k
   module _ {a b : Tree} (l : Grown ss (left-in ss k) before k a) (r : Grown ss (right-in ss k) k after b) where
-    grown-links : Links ss (entry-in ss k) a b
+    grown-links : Links ss (entry-at ss k) a b
     grown-links =
         let la = at-root (l .rooted) in
         let rb = at-root (r .rooted) in
@@ -50,7 +48,7 @@ module _ {ss : List ℕ} {k before after : ℕ} (w : Within ss k) (f : Fitting s
               (f .size-is ∙ rw (la .size-is, rb .size-is) (omega arith));
         }
 
-    grown-even : balanced (node (entry-in ss k) a b) ≡ true
+    grown-even : balanced (node (entry-at ss k) a b) ≡ true
     grown-even =
         let la = at-root (l .rooted) in
         let rb = at-root (r .rooted) in
@@ -59,14 +57,14 @@ module _ {ss : List ℕ} {k before after : ℕ} (w : Within ss k) (f : Fitting s
         (le-leb (levels b) (suc (levels a)) (omega (arith, f .right-low, la .levels-is, rb .levels-is))))
         (true-and (l .even) (r .even))
 
-    pub grown-node : Distinct (slots (node (entry-in ss k) a b)) → Grown ss k before after (node (entry-in ss k) a b)
+    pub grown-node : Distinct (slots (node (entry-at ss k) a b)) → Grown ss k before after (node (entry-at ss k) a b)
     grown-node distinct =
         record {
           rooted =
               record {
                 room = l .rooted .room;
                 stored =
-                    live {e = entry-in ss k} {l = a} {r = b}
+                    live {e = entry-at ss k} {l = a} {r = b}
                     (record { at = w; start-word = refl; end-word = refl; value-word = refl }) grown-links
                     (l .rooted .stored) (r .rooted .stored);
                 distinct = distinct;
@@ -75,7 +73,7 @@ module _ {ss : List ℕ} {k before after : ℕ} (w : Within ss k) (f : Fitting s
           even = grown-even;
           in-order =
               let own = bound-some ss k (λ z. omega (arith, w .from-one)) in
-              join-order (bound ss before) (entries a) (entry-in ss k) (entries b) (bound ss after)
+              join-order (bound ss before) (entries a) (entry-at ss k) (entries b) (bound ss after)
               (rw own at (l .in-order)) (rw own at (r .in-order));
         }
 
@@ -166,6 +164,5 @@ grown-parts {ss} {k} {before} {after} {t} low g = go (g .rooted .stored) (g .roo
 pub stored-once : {ss : List ℕ} {t u : Tree} → length ss ≤ slot-words * most-slots → Stored ss t → Stored ss u
     → root t ≡ root u → t ≡ u
 stored-once {ss} {t} {u} room p q same =
-    let ws : List ℕ = 0 ∷ 0 ∷ 0 ∷ 0 ∷ ss in
     let n : ℕ = levels t + levels u in
-    sym (tree-read n ws p room (omega arith)) ∙ rw same (tree-read n ws q room (omega arith))
+    sym (tree-read n p room (omega arith)) ∙ rw same (tree-read n q room (omega arith))

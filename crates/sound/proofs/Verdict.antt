@@ -11,11 +11,12 @@ use borrow.Author.Tests.{eq-eqb, ne-eqb, eqb-true}
 use Rattle.rules.specs.Limits.{most-slots}
 use Rattle.rules.specs.Tree.{Tree, leaf, node, entries, root}
 use Rattle.rules.specs.Pool.{ascending, times, slots}
+use Rattle.rules.specs.Held.{entry-at}
 use Rattle.rules.specs.Stored.{slot-word, Stored, none, live}
 use Rattle.rules.proofs.Tests.{and-true, true-and}
 use Rattle.rules.proofs.Times.{times-one, times-node}
 use Rattle.node.specs.Node.{levels-at}
-use Rattle.clauses.specs.Slot.{entry-in, bound}
+use Rattle.clauses.specs.Slot.{bound}
 use Rattle.fitting.specs.Fits.{left-in, right-in, fits-here}
 use Rattle.sound.specs.Claims.{Flags, Unclaimed, Claimed, Ready, Judged}
 use Rattle.sound.proofs.Decisions.{not-both}
@@ -165,13 +166,13 @@ module _ {ss ms : List ℕ} {k before after : ℕ} (low : 1 ≤ k) (ready : Read
         record {
           accepted = λ yes.
               let b = on-right .accepted yes in
-              let t : Tree = node (entry-in ss k) (a .0) (b .0) in
+              let t : Tree = node (entry-at ss k) (a .0) (b .0) in
               let claimed : Claimed (slots t) ms left =
               record {
                 flags = b .2 .flags;
                 adds = λ s.
                     omega
-                    (arith, one .adds s, a .2 .adds s, b .2 .adds s, times-node s (entry-in ss k) (a .0) (b .0));
+                    (arith, one .adds s, a .2 .adds s, b .2 .adds s, times-node s (entry-at ss k) (a .0) (b .0));
               }
               in (
                 t,

@@ -6,11 +6,10 @@ use mathlib.Core.Path.{_≡_, refl, ap, _∙_}
 use Rattle.rules.specs.Range.{Range, range, same, order}
 use Rattle.rules.specs.Tree.{Tree, leaf, node}
 use Rattle.rules.specs.Balance.{Side, near}
-use Rattle.rules.specs.Edit.{find}
+use Rattle.rules.specs.Edit.{find, is-some}
 use Rattle.rules.specs.Stored.{slot-word, Rooted}
 use Rattle.node.specs.Node.{levels-at}
 use Rattle.node.proofs.Trees.{at-node}
-use Rattle.tree.specs.Edits.{is-some}
 use Rattle.tree.proofs.Hanging.{find-way, not-none, not-node, range-read, near-rooted, falls, Turn, turns}
 
 -- in no tree there is nothing

@@ -6,7 +6,7 @@ use mathlib.Core.Path.{_≡_, refl, sym, ap, subst, _∙_}
 use native.Mathlib.Omega.{arith}
 use mathlib.Core.Bool.{true, false}
 use Rattle.rules.specs.Limits.{slot-words, half}
-use Rattle.rules.specs.Range.{Range, range, Order, less, same, more, order}
+use Rattle.rules.specs.Range.{Range, range, Order, less, same, more, order, is-same}
 use Rattle.rules.specs.Tree.{Entry, Tree, leaf, node, levels, size, max-end}
 use Rattle.rules.specs.Balance.{Side, left, right, near, far, join, balance, balanced-join}
 use Rattle.rules.specs.Edit.{find}
@@ -14,7 +14,6 @@ use Rattle.rules.specs.Pool.{times, slots}
 use Rattle.rules.specs.Stored.{slot-word, Within, Rooted, Left}
 use Rattle.rules.proofs.Times.{times-node, times-one}
 use Rattle.rules.proofs.Inorder.{entries-balance}
-use Rattle.interval.specs.Interval.{is-same}
 use Rattle.node.specs.Node.{levels-at, Hung}
 use Rattle.node.proofs.Trees.{AtNode, at-node, at-root, bears-kept, rooted-kept, left-then}
 use Rattle.balance.proofs.Sides.{times-sides, rooted-near, rooted-far}

@@ -1,8 +1,8 @@
 -- What a search, insert and the removals are given and leave, in the words of the slots.
 use Prim.Native.Nat.{ℕ, _+_, _≤_}
-use mathlib.Core.Bool.{Bool, true, false}
+use mathlib.Core.Bool.{true}
 use mathlib.Core.List.{List}
-use mathlib.Core.Option.{Option, none, some}
+use mathlib.Core.Option.{none, some}
 use mathlib.Core.Path.{_≡_}
 use Rattle.rules.specs.Range.{Range, Order, less, same, more}
 use Rattle.rules.specs.Tree.{Entry, Tree, leaf, node, levels}
@@ -12,11 +12,6 @@ use Rattle.rules.specs.Pool.{times, slots, balanced}
 use Rattle.rules.specs.Stored.{Within, Rooted}
 use Rattle.tree.specs.declared.Removed.{Removed}
 use Rattle.settle.specs.Settling.{Settles}
-
--- whether something was found
-abbrev pub is-some : Option Entry → Bool
-is-some none = false
-is-some (some e) = true
 
 -- the side to which an order sends a search that does not end
 abbrev pub side-to : Order → Side

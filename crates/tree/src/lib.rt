@@ -4,14 +4,13 @@ use balance::Side;
 ghost use mathlib.Core.Path.{_≡_};
 ghost use Prim.Native.Nat.{_≤_};
 ghost use Rattle.rules.specs.Tree.{Entry, Tree, node, levels};
-ghost use Rattle.rules.specs.Edit.{find, close};
-ghost use Rattle.rules.specs.Range.{range, order};
+ghost use Rattle.rules.specs.Edit.{find, is-some, close};
+ghost use Rattle.rules.specs.Range.{range, order, is-same};
 ghost use Rattle.rules.specs.Stored.{slot-word, Within, Rooted, Left};
 ghost use Rattle.node.specs.Node.{entry};
-ghost use Rattle.interval.specs.Interval.{is-same};
 ghost use Rattle.balance.specs.Sides.{side-of};
 ghost use Rattle.settle.specs.Settling.{Settles};
-ghost use Rattle.tree.specs.Edits.{is-some, side-to, Standing, Inserting, Inserts, Sheds, Pair, Deletes};
+ghost use Rattle.tree.specs.Edits.{side-to, Standing, Inserting, Inserts, Sheds, Pair, Deletes};
 
 // What a removal did: the slot of the root that is left, with 1 as the high half where the tree is now lower, and the slot
 // of the entry that went. Where nothing went, that is 0.

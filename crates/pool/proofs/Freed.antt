@@ -5,8 +5,8 @@ use mathlib.Core.List.{List, [], _∷_, _++_, append-assoc}
 use mathlib.Core.Path.{_≡_, refl, ap, _∙_}
 use mathlib.Core.Logic.{⊎-elim}
 use native.Mathlib.Omega.{arith}
-use lib.ListN.{length, getD, take, drop, set, List·getD-append}
-use lib.Seq.{length-take-le, getD-take, getD-drop, getD-append-add, sets, sets-eq, length-sets}
+use lib.ListN.{length, getD, take, drop, List·getD-append}
+use lib.Seq.{length-take-le, getD-take, getD-drop, getD-append-add, sets-eq, length-sets}
 use Rattle.rules.specs.Limits.{slot-words}
 use Rattle.rules.specs.Tree.{leaf}
 use Rattle.rules.specs.Pool.{slot-of}
@@ -14,6 +14,7 @@ use Rattle.rules.specs.Stored.{slot-word, Within, Freed, Kept}
 use Rattle.rules.proofs.Tests.{lt-cases}
 use Rattle.rules.proofs.Times.{times-other}
 use Rattle.rules.proofs.Stored.{slot-freed}
+use Rattle.node.specs.Node.{with-words}
 use Rattle.node.proofs.Trees.{within-kept}
 use Rattle.pool.specs.Around.{with-slot}
 
@@ -88,14 +89,16 @@ freed ss s next w =
     slot-freed (within-kept (slot-kept ss s (slot-of leaf next) w refl) w)
     (record { reads = slot-stored ss s (slot-of leaf next) w refl })
 
--- six stores after each other are a slot's words
-pub six-stores : (ss : List ℕ) (at a b c d e f : ℕ)
-    → set (set (set (set (set (set ss at a) (at + 1) b) (at + 2) c) (at + 3) d) (at + 4) e) (at + 5) f
-    ≡ sets ss at (a ∷ b ∷ c ∷ d ∷ e ∷ f ∷ [])
-six-stores ss at a b c d e f =
+-- three words stored in a slot, and then its other three, are all its words
+pub stored-twice : (ss : List ℕ) (s a b c d e f : ℕ)
+    → with-words (with-words ss s 0 a b c) s 3 d e f ≡ with-slot ss s (a ∷ b ∷ c ∷ d ∷ e ∷ f ∷ [])
+unfolding with-words with-slot
+stored-twice ss s a b c d e f =
+    let at : ℕ = slot-words * (s - 1) in
+    let none : at + 0 ≡ at = omega arith in
     let one : at + 1 ≡ suc at = omega arith in
     let two : at + 2 ≡ suc (suc at) = omega arith in
     let three : at + 3 ≡ suc (suc (suc at)) = omega arith in
-    let four : at + 4 ≡ suc (suc (suc (suc at))) = omega arith in
-    let five : at + 5 ≡ suc (suc (suc (suc (suc at)))) = omega arith in
-    rw (one, two, three, four, five)
+    let four : at + 3 + 1 ≡ suc (suc (suc (suc at))) = omega arith in
+    let five : at + 3 + 2 ≡ suc (suc (suc (suc (suc at)))) = omega arith in
+    rw (none, one, two, four, five, three)

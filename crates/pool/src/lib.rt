@@ -12,7 +12,7 @@ ghost use Rattle.rules.specs.Pool as pool;
 ghost use Rattle.rules.specs.Stored.{Within, Chained};
 ghost use Rattle.pool.specs.Around.{with-slot, with-header, Released, Claimed};
 
-// Whether a run of n words is that of 1 to 4,095 slots.
+// Whether a run of n words is a pool's: its header and from 1 to the most slots.
 pub fn is_right_length(n: usize) -> bool
     ensures { λ r. ⌜ r ≡ pool.right-length n ⌝ }
 {
@@ -62,13 +62,8 @@ fn free_slot(slots: &mut [u64], s: u64, next: u64)
     requires { ⌜ Within (now slots) s ⌝ }
     ensures { λ _. ⌜ now (slots .exit) ≡ with-slot (now (slots .entry)) s (pool.slot-of leaf next) ⌝ }
 {
-    let at = SLOT_WORDS * (s - 1) as usize;
-    slots[at] = 0;
-    slots[at + 1] = 0;
-    slots[at + 2] = 0;
-    slots[at + 3] = 0;
-    slots[at + 4] = next;
-    slots[at + 5] = 0;
+    node::set_words(slots, s, 0, 0, 0, 0);
+    node::set_words(slots, s, 3, 0, next, 0);
 }
 
 // Links all slots as free, from 1 on.

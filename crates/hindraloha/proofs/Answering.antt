@@ -10,8 +10,6 @@ use Rattle.rules.specs.Request.{Request, serve, is-refusal}
 use Rattle.rules.specs.Record.{kinds, reads}
 use Rattle.rules.specs.Feed.{feed-turns}
 use Rattle.rules.specs.Entries.{Edited, Applied, Fed, check, edit, apply, feed, apply-refused, apply-read, fed}
-use Rattle.request.specs.Answers.{number-of}
-use Rattle.request.specs.declared.Answer.{Answer}
 use Rattle.serve.specs.Answers.{Answers}
 use Rattle.guard.proofs.Guarded.{refused-whole, answered}
 
@@ -34,12 +32,11 @@ module _ (ws : List ℕ) {n : ℕ} {tested : Bool} (is : n ≡ check ws) (test :
       (λ c p. fed c (feed-turns (serve c) (length bytes) bytes p))
 
 module _ {ws : List ℕ} {p : Pool} (h : Holds ws p) where
-  pub edit-served : {after : List ℕ} {answer : Answer} {n : ℕ} (request : Request) → n ≡ number-of answer
-      → Answers ws after answer (serve (capacity (length ws)) request p)
+  pub edit-served : {after : List ℕ} {n : ℕ} (request : Request) → Answers ws after n (serve (capacity (length ws)) request p)
       → _≡_ {A = Edited} (record { number = n; words = after }) (edit request ws)
   unfolding edit
-  edit-served request is told =
-      (λ i. record { number = (is ∙ told .number-is) i; words = told .words-are i })
+  edit-served request told =
+      (λ i. record { number = told .number-is i; words = told .words-are i })
       ∙ answered (λ m. record { number = m; words = ws })
       (λ c p. record { number = serve c request p .number; words = words c (serve c request p .left) })
       h

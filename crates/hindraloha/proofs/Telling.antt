@@ -8,7 +8,7 @@ use lib.IntN.{ℤ, pos, negsuc}
 use lib.ListN.{length, getD, drop}
 use borrow.Author.Tests.{eq-eqb, ne-eqb}
 use native.Mathlib.Omega.{arith}
-use Rattle.rules.specs.Limits.{half}
+use Rattle.rules.specs.Limits.{header-words, half}
 use Rattle.rules.specs.Tree.{Tree, leaf, node, levels, size, height}
 use Rattle.rules.specs.Pool.{Pool, Holds}
 use Rattle.rules.specs.Request.{is-refusal}
@@ -64,7 +64,7 @@ module _ {ws : List ℕ} {p : Pool} (h : Holds ws p) where
       ∙ answered (λ m. record { number = m; told = pos 0 }) (λ c p. record { number = 0; told = height (p .tree) }) h
 
   -- no root, no height
-  no-height : (t : Tree) → Rooted (drop 4 ws) (getD ws 0 0) t → getD ws 0 0 ≡ 0 → negsuc 0 ≡ height t
+  no-height : (t : Tree) → Rooted (drop header-words ws) (getD ws 0 0) t → getD ws 0 0 ≡ 0 → negsuc 0 ≡ height t
   no-height leaf r e = refl
   no-height (node x l r) t e = absurd (let at = at-node t .at in omega arith)
 
@@ -72,26 +72,26 @@ module _ {ws : List ℕ} {p : Pool} (h : Holds ws p) where
   no-height-told k is none = height-by (negsuc 0) (no-height (p .tree) (holds-rooted h) (sym is ∙ none))
 
   -- a root holds its height
-  some-height : (t : Tree) → Rooted (drop 4 ws) (getD ws 0 0) t → (getD ws 0 0 ≡ 0 → ⊥)
-      → pos (slot-word (drop 4 ws) (getD ws 0 0) 5 % half) ≡ height t
+  some-height : (t : Tree) → Rooted (drop header-words ws) (getD ws 0 0) t → (getD ws 0 0 ≡ 0 → ⊥)
+      → pos (slot-word (drop header-words ws) (getD ws 0 0) 5 % half) ≡ height t
   some-height leaf r there = absurd (there (sym (r .rooted)))
   some-height (node x l r) t there =
       let root = at-root t in
       let at = at-node t in
       let shape = rw (at .slot-is) at (at .links .shape-word) in
-      ap pos (low-half (slot-word (drop 4 ws) (getD ws 0 0) 5) (max (levels l) (levels r)) (size (node x l r)) shape (omega arith))
+      ap pos (low-half (slot-word (drop header-words ws) (getD ws 0 0) 5) (max (levels l) (levels r)) (size (node x l r)) shape (omega arith))
 
-  pub height-told : (k : ℕ) → k ≡ getD ws 0 0 → (k ≡ 0 → ⊥) → (n : ℕ) → n ≡ slot-word (drop 4 ws) k 5 % half
+  pub height-told : (k : ℕ) → k ≡ getD ws 0 0 → (k ≡ 0 → ⊥) → (n : ℕ) → n ≡ slot-word (drop header-words ws) k 5 % half
       → _≡_ {A = Told ℤ} (record { number = 0; told = pos n }) (height-of ws)
   height-told k is there n low =
       height-by (pos n)
-      (ap pos (low ∙ ap (λ (j : ℕ). slot-word (drop 4 ws) j 5 % half) is)
+      (ap pos (low ∙ ap (λ (j : ℕ). slot-word (drop header-words ws) j 5 % half) is)
       ∙ some-height (p .tree) (holds-rooted h) (λ e. there (is ∙ e)))
 
   -- the root's slot is one of these words
-  pub root-there : (k : ℕ) → k ≡ getD ws 0 0 → (k ≡ 0 → ⊥) → Within (drop 4 ws) k
+  pub root-there : (k : ℕ) → k ≡ getD ws 0 0 → (k ≡ 0 → ⊥) → Within (drop header-words ws) k
   root-there k is there = rw is (go (p .tree) (holds-rooted h))
     where
-      go : (t : Tree) → Rooted (drop 4 ws) (getD ws 0 0) t → Within (drop 4 ws) (getD ws 0 0)
+      go : (t : Tree) → Rooted (drop header-words ws) (getD ws 0 0) t → Within (drop header-words ws) (getD ws 0 0)
       go leaf r = absurd (there (is ∙ sym (r .rooted)))
       go (node x l r) t = at-node t .at

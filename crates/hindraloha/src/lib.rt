@@ -50,7 +50,7 @@ fn edit(pool: &mut [u64], request: Request) -> Answer
         return Answer { number };
     }
     Answer {
-        number: request::number_of(serve::edit(pool, request)),
+        number: serve::edit(pool, request),
     }
 }
 
@@ -179,7 +179,7 @@ pub extern "C" fn hindraloha_height(pool: &[u64]) -> Height
     if root == 0 {
         return Height { number, height: -1 };
     }
-    let shape = node::word(&pool[4..], root, 5);
+    let shape = node::word(pool::slots(pool), root, 5);
     Height {
         number,
         height: node::low(shape) as i64,

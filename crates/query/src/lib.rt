@@ -4,6 +4,7 @@ use interval::Included;
 use interval::Interval;
 use request::Answer;
 use request::End;
+use rules::HEADER_WORDS;
 ghost use mathlib.Core.Path.{_≡_};
 ghost use Prim.Native.Nat.{ℕ, _≤_};
 ghost use lib.ListN.{length, drop};
@@ -42,7 +43,7 @@ pub fn ask(words: &[u64], bound: End, start: u64, end: u64) -> Asked
     match request::range_to(bound, start, end) {
         Included::Range(range) => Asked {
             number: 0,
-            first: 4,
+            first: HEADER_WORDS,
             root: pool::root(words),
             range,
         },

@@ -65,7 +65,7 @@ fn apply_request(words: &mut [u64], request: Request, taken: usize, rows: &mut [
         let hits = query::list(words, asked, rows);
         return outcome(asked.number, taken, hits);
     }
-    outcome(request::number_of(serve::edit(words, request)), taken, 0)
+    outcome(serve::edit(words, request), taken, 0)
 }
 
 // Applies the record at the front of the bytes. Only a query writes to the lent run of rows.
@@ -93,7 +93,7 @@ fn feed_one(words: &mut [u64], bytes: &[u8]) -> Turn
             if body.len() < n {
                 return Turn::Refused(request::number_of(Answer::CutShort));
             }
-            let number = request::number_of(serve::edit(words, reading::means(kind, body)));
+            let number = serve::edit(words, reading::means(kind, body));
             if request::is_refusal(number) {
                 Turn::Refused(number)
             } else {

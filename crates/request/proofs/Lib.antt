@@ -1,2 +1,2 @@
--- What the answer of `range_of` and `range_to` says of the range of a request.
+-- What the answer of `range_to` says of the range of a request.
 pub mod Ranged

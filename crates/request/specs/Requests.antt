@@ -1,7 +1,6 @@
--- How the code's enums stand for document 01's requests, and the range that a request is about.
-use mathlib.Core.Option.{Option, some}
+-- How the code's enums stand for document 01's requests.
 use Rattle.rules.specs.Range as range
-use Rattle.rules.specs.Range.{Range, excluded, included, range-to}
+use Rattle.rules.specs.Range.{excluded, included}
 use Rattle.rules.specs.Balance.{left, right}
 use Rattle.rules.specs.Request as request
 use Rattle.rules.specs.Request.{inserting, deleting, deleting-end, clearing, querying}
@@ -23,11 +22,3 @@ request-of DeleteMin = deleting-end left
 request-of DeleteMax = deleting-end right
 request-of Clear = clearing
 request-of (Query d a b) = querying (end-of d) a b
-
--- the range of a request, none where its included end is 2^64 - 1; a request that names none has 0..0
-abbrev pub range-asked : request.Request → Option Range
-range-asked (inserting d a b v) = range-to d a b
-range-asked (deleting d a b) = range-to d a b
-range-asked (querying d a b) = range-to d a b
-range-asked (deleting-end s) = some (range.range 0 0)
-range-asked clearing = some (range.range 0 0)

@@ -1,12 +1,12 @@
-// What is asked of a pool and what it is answered: the requests, the range that each is about, and the answers with
-// document 01's numbers.
+// What is asked of a pool and what it is answered: the requests, the range that one is about, and the answers with document
+// 01's numbers.
 use interval::Included;
 use interval::Interval;
 ghost use mathlib.Core.Path.{_≡_};
 ghost use Rattle.rules.specs.Range.{range-to};
 ghost use Rattle.rules.specs.Request.{is-refusal};
 ghost use Rattle.interval.specs.Interval.{included-of};
-ghost use Rattle.request.specs.Requests.{end-of, request-of, range-asked};
+ghost use Rattle.request.specs.Requests.{end-of};
 ghost use Rattle.request.specs.Answers.{number-of};
 
 // Whether a range ends before its end or with it.
@@ -75,31 +75,12 @@ pub fn is_refusal(number: u64) -> bool
     10 <= number
 }
 
-// The range from `start` to `end`, unless the end is included and past the last number.
+// The range of a request, from `start` to `end`: none where the end is included and past the last number.
 pub fn range_to(bound: End, start: u64, end: u64) -> Included
     ensures { λ r. ⌜ included-of r ≡ range-to (end-of bound) start end ⌝ }
 {
     match bound {
         End::Excluded => Included::Range(Interval { start, end }),
         End::Included => Interval::from_inclusive(start, end),
-    }
-}
-
-// The range that a request is about: 0..0, which nothing looks at, for a request without one.
-pub fn range_of(request: Request) -> Included
-    ensures { λ r. ⌜ included-of r ≡ range-asked (request-of request) ⌝ }
-{
-    match request {
-        Request::Insert {
-            bound,
-            start,
-            end,
-            value,
-        } => range_to(bound, start, end),
-        Request::Delete { bound, start, end } => range_to(bound, start, end),
-        Request::Query { bound, start, end } => range_to(bound, start, end),
-        Request::DeleteMin | Request::DeleteMax | Request::Clear => {
-            Included::Range(Interval { start: 0, end: 0 })
-        }
     }
 }

@@ -2,4 +2,3 @@
 pub mod Laying
 pub mod Putting
 pub mod Taking
-pub mod Ranged

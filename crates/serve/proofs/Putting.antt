@@ -25,6 +25,7 @@ use Rattle.pool.proofs.Chains.{chained-kept}
 use Rattle.tree.specs.Edits.{Inserting, Inserts}
 use Rattle.tree.proofs.Inserting.{times-inserted}
 use Rattle.serve.specs.Answers.{Answers}
+use Rattle.request.specs.Answers.{number-of}
 use Rattle.request.specs.declared.Answer.the-variants.{Done, There, Full}
 use Rattle.serve.proofs.Laying.{same-words, header-kept, left-words, claimed-once, in-order, header-there, holds-standing}
 
@@ -71,19 +72,19 @@ few-live {ws} p h =
 
 -- the answer where the range is found, and nothing was written
 pub answers-there : {ws : List ℕ} {p : Pool} (k : Range) (v : ℕ) → Holds ws p → true ≡ is-some (find k (p .tree))
-    → Answers ws ws There (insert-into (find k (p .tree)) (p .free) k v p)
+    → Answers ws ws (number-of There) (insert-into (find k (p .tree)) (p .free) k v p)
 answers-there {ws} {p} k v h found = go (find k (p .tree)) found
   where
-    go : (o : Option Entry) → true ≡ is-some o → Answers ws ws There (insert-into o (p .free) k v p)
+    go : (o : Option Entry) → true ≡ is-some o → Answers ws ws (number-of There) (insert-into o (p .free) k v p)
     go none e = absurd (let z : _≡_ {A = ℕ} 0 1 = cc in omega arith)
     go (some e) f = record { number-is = refl; words-are = h .all-words }
 
 -- the answer where the range is not found and no slot is free
 pub answers-full : {ws : List ℕ} (p : Pool) (k : Range) (v : ℕ) → Holds ws p → getD ws 1 0 ≡ 0 → false ≡ is-some (find k (p .tree))
-    → Answers ws ws Full (insert-into (find k (p .tree)) (p .free) k v p)
+    → Answers ws ws (number-of Full) (insert-into (find k (p .tree)) (p .free) k v p)
 answers-full {ws} p k v h e new = go (find k (p .tree)) (p .free) new (full (p .free) h e)
   where
-    go : (o : Option Entry) (free : List ℕ) → false ≡ is-some o → free ≡ [] → Answers ws ws Full (insert-into o free k v p)
+    go : (o : Option Entry) (free : List ℕ) → false ≡ is-some o → free ≡ [] → Answers ws ws (number-of Full) (insert-into o free k v p)
     go none [] f e = record { number-is = refl; words-are = h .all-words }
     go none (s ∷ rest) f e = absurd (let z : _≡_ {A = ℕ} 0 1 = cc in omega arith)
     go (some x) free f e = absurd (let z : _≡_ {A = ℕ} 0 1 = cc in omega arith)
@@ -94,7 +95,7 @@ pub answers-kept : {ws after : List ℕ} {top : ℕ} (p : Pool) (k : Range) (v :
     → ((t : Tree) → Inserting (drop header-words ws) (getD ws 0 0) (getD ws 1 0) t
     → Inserts top (drop header-words ws) (drop header-words after) (entry (getD ws 1 0) (k .start) (k .end) v) t)
     → top ≡ 0
-    → Answers ws after There (insert-into (find k (p .tree)) (p .free) k v p)
+    → Answers ws after (number-of There) (insert-into (find k (p .tree)) (p .free) k v p)
 answers-kept {ws} {after} p k v h there head done is =
     let told = done (p .tree) (inserting-first p h there) .there is in
     rw (same-words ws after head (told .1)) (answers-there k v h (rw (told .0 .1) refl))
@@ -111,7 +112,7 @@ answers-put : {ws after : List ℕ} {top : ℕ} (between : List ℕ) (p : Pool) 
     → length after ≡ length ws
     → drop header-words after ≡ drop header-words between
     → Header after top (slot-word (drop header-words ws) (getD ws 1 0) 4) (getD ws 2 0 + 1) 0
-    → Answers ws after Done (insert-into (find k (p .tree)) (p .free) k v p)
+    → Answers ws after (number-of Done) (insert-into (find k (p .tree)) (p .free) k v p)
 unfolding serve range-to
 answers-put {ws} {after} {top} between p k v h there head done long same header =
     let told = done (p .tree) (inserting-first p h there) in
@@ -119,7 +120,7 @@ answers-put {ws} {after} {top} between p k v h there head done long same header 
   where
     go : (free : List ℕ) → Holds ws (pool (p .tree) free)
         → Puts top (drop header-words ws) (drop header-words between) (entry (getD ws 1 0) (k .start) (k .end) v) (p .tree)
-        → Answers ws after Done (insert-into none free k v p)
+        → Answers ws after (number-of Done) (insert-into none free k v p)
     go [] h told = absurd (there (holds-laid h .head .free-word))
     go (s ∷ rest) h told =
         let c = capacity (length ws) in
@@ -168,7 +169,7 @@ pub answers-claimed : {ws after : List ℕ} {top root next : ℕ} (between : Lis
     → length between ≡ length ws
     → next ≡ slot-word (drop header-words ws) (getD ws 1 0) 4
     → Claimed between after root next
-    → Answers ws after Done (insert-into (find k (p .tree)) (p .free) k v p)
+    → Answers ws after (number-of Done) (insert-into (find k (p .tree)) (p .free) k v p)
 answers-claimed {ws} between p k v h there head done answered root-is long next-is claimed =
     answers-put between p k v h there head
     (λ t i. let put = done t i .put answered in (put .0, rw root-is (put .1 .left)))

@@ -28,6 +28,7 @@ use Rattle.tree.proofs.Hanging.{not-node}
 use Rattle.tree.proofs.Deleting.{times-deleted}
 use Rattle.tree.proofs.Shedding.{times-ended}
 use Rattle.serve.specs.Answers.{Answers}
+use Rattle.request.specs.Answers.{number-of}
 use Rattle.request.specs.declared.Answer.the-variants.{Done, Absent}
 use Rattle.serve.proofs.Laying.{same-words, header-kept, left-words, claimed-once, in-order, holds-standing}
 
@@ -79,7 +80,7 @@ module _ {ws : List ℕ} (between : List ℕ) {top slot : ℕ} {p : Pool} {u : T
 pub answers-absent : {ws after : List ℕ} {p : Pool} {gone : Removed} (k : Range) → Holds ws p → take header-words after ≡ take header-words ws
     → ((t : Tree) → Standing (drop header-words ws) (getD ws 0 0) t → Deletes gone (drop header-words ws) (drop header-words after) k t)
     → gone .slot ≡ 0
-    → Answers ws after Absent (delete-from (find k (p .tree)) k p)
+    → Answers ws after (number-of Absent) (delete-from (find k (p .tree)) k p)
 answers-absent {ws} {after} {p} k h head done is =
     let told = done (p .tree) (holds-standing h) .absent is in
     rw (told .0, same-words ws after head (told .1)) (record { number-is = refl; words-are = h .all-words })
@@ -102,7 +103,7 @@ pub answers-gone : {ws after : List ℕ} {p : Pool} {e : Entry} {slot : ℕ} (k 
     → e .slot ≡ slot
     → (good (capacity (length ws)) (pool (delete k (p .tree)) (slot ∷ p .free)) ≡ true
     → after ≡ words (capacity (length ws)) (pool (delete k (p .tree)) (slot ∷ p .free)))
-    → Answers ws after Done (delete-from (find k (p .tree)) k p)
+    → Answers ws after (number-of Done) (delete-from (find k (p .tree)) k p)
 unfolding serve range-to
 answers-gone {ws} {after} {p} {e} k h found is left =
     let c = capacity (length ws) in
@@ -111,10 +112,10 @@ answers-gone {ws} {after} {p} {e} k h found is left =
 
 -- a removal of an end of no tree
 pub answers-no-end : {ws : List ℕ} (s : Side) (p : Pool) → Holds ws p → getD ws 0 0 ≡ 0
-    → Answers ws ws Absent (delete-end-from s (p .tree) p)
+    → Answers ws ws (number-of Absent) (delete-end-from s (p .tree) p)
 answers-no-end {ws} s p h empty = go (p .tree) (holds-rooted h)
   where
-    go : (t : Tree) → Rooted (drop header-words ws) (getD ws 0 0) t → Answers ws ws Absent (delete-end-from s t p)
+    go : (t : Tree) → Rooted (drop header-words ws) (getD ws 0 0) t → Answers ws ws (number-of Absent) (delete-end-from s t p)
     go leaf r = record { number-is = refl; words-are = h .all-words }
     go (node e l r) t = absurd (not-node t empty)
 
@@ -135,14 +136,14 @@ pub answers-end : {ws after : List ℕ} {slot : ℕ} (s : Side) (p : Pool) → H
     → slot ≡ end-slot s (p .tree)
     → (good (capacity (length ws)) (pool (shed s (p .tree)) (slot ∷ p .free)) ≡ true
     → after ≡ words (capacity (length ws)) (pool (shed s (p .tree)) (slot ∷ p .free)))
-    → Answers ws after Done (delete-end-from s (p .tree) p)
+    → Answers ws after (number-of Done) (delete-end-from s (p .tree) p)
 unfolding serve
 answers-end {ws} {after} {slot} s p h tall is left = go (p .tree) refl tall is left
   where
     go : (t : Tree) → p .tree ≡ t → 1 ≤ levels t → slot ≡ end-slot s t
         → (good (capacity (length ws)) (pool (shed s t) (slot ∷ p .free)) ≡ true
         → after ≡ words (capacity (length ws)) (pool (shed s t) (slot ∷ p .free)))
-        → Answers ws after Done (delete-end-from s t p)
+        → Answers ws after (number-of Done) (delete-end-from s t p)
     go leaf same tall is left = absurd (omega arith)
     go (node e l r) same tall is left =
         let c = capacity (length ws) in

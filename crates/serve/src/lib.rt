@@ -4,21 +4,22 @@ use interval::Included;
 use interval::Interval;
 use request::Answer;
 use request::Request;
+use rules::HEADER_WORDS;
 use tree::Removed;
 ghost use mathlib.Core.Path.{_≡_};
 ghost use Prim.Native.Nat.{_≤_};
 ghost use lib.ListN.{length, take, drop};
 ghost use Rattle.rules.specs.Limits.{header-words};
 ghost use Rattle.rules.specs.Tree.{Tree, levels};
-ghost use Rattle.rules.specs.Stored.{slot-word, Within, Rooted};
 ghost use Rattle.rules.specs.Pool.{Pool, Holds, capacity, fresh};
-ghost use Rattle.rules.specs.Edit.{find, is-some};
+ghost use Rattle.rules.specs.Edit.{find};
 ghost use Rattle.rules.specs.Request.{serve, changed, insert-into, delete-from, delete-end-from};
 ghost use Rattle.node.specs.Node.{entry};
 ghost use Rattle.interval.specs.Interval.{range-of};
 ghost use Rattle.balance.specs.Sides.{side-of};
 ghost use Rattle.tree.specs.Edits.{Standing, Inserting, Inserts, Deletes, Sheds};
 ghost use Rattle.request.specs.Requests.{request-of};
+ghost use Rattle.request.specs.Answers.{number-of};
 ghost use Rattle.serve.specs.Answers.{Answers};
 
 // `tree::insert` into the slots, which are the words after the header.
@@ -27,7 +28,7 @@ fn insert_slot(words: &mut [u64], root: u64, key: Interval, value: u64, new: u64
     ensures kept { λ _. ⌜ take header-words (now (words .exit)) ≡ take header-words (now (words .entry)) ⌝ }
     ensures done { λ r. ⌜ ((t : Tree) → Inserting (drop header-words (now (words .entry))) root new t → Inserts r (drop header-words (now (words .entry))) (drop header-words (now (words .exit))) (entry new (key .start) (key .end) value) t) ⌝ }
 {
-    tree::insert(&mut words[4..], root, key.start, key.end, value, new)
+    tree::insert(&mut words[HEADER_WORDS..], root, key.start, key.end, value, new)
 }
 
 // `tree::delete` from the slots.
@@ -36,7 +37,7 @@ fn delete_slot(words: &mut [u64], root: u64, key: Interval) -> Removed
     ensures kept { λ _. ⌜ take header-words (now (words .exit)) ≡ take header-words (now (words .entry)) ⌝ }
     ensures done { λ r. ⌜ ((t : Tree) → Standing (drop header-words (now (words .entry))) root t → Deletes r (drop header-words (now (words .entry))) (drop header-words (now (words .exit))) (range-of key) t) ⌝ }
 {
-    tree::delete(&mut words[4..], root, key.start, key.end)
+    tree::delete(&mut words[HEADER_WORDS..], root, key.start, key.end)
 }
 
 // `tree::delete_end` from the slots.
@@ -45,39 +46,23 @@ fn delete_end_slot(words: &mut [u64], side: Side, root: u64) -> Removed
     ensures kept { λ _. ⌜ take header-words (now (words .exit)) ≡ take header-words (now (words .entry)) ⌝ }
     ensures done { λ r. ⌜ ((t : Tree) → Standing (drop header-words (now (words .entry))) root t → 1 ≤ levels t → Sheds (side-of side) r (drop header-words (now (words .entry))) (drop header-words (now (words .exit))) t) ⌝ }
 {
-    tree::delete_end(&mut words[4..], side, root)
-}
-
-// Whether the tree in the slots has the range.
-fn contains_slot(words: &[u64], root: u64, key: Interval) -> bool
-    requires { ⌜ (header-words ≤ length (now words)) × ((t : Tree) × Rooted (drop header-words (now words)) root t) ⌝ }
-    ensures { λ r. ⌜ ((t : Tree) → Rooted (drop header-words (now (words .entry))) root t → r ≡ is-some (find (range-of key) t)) ⌝ }
-{
-    tree::contains(&words[4..], root, key.start, key.end)
-}
-
-// The slot after a free slot in the chain, 0 for none.
-fn next_free(words: &[u64], slot: u64) -> u64
-    requires { ⌜ (header-words ≤ length (now words)) × Within (drop header-words (now words)) slot ⌝ }
-    ensures { λ r. ⌜ r ≡ slot-word (drop header-words (now (words .entry))) slot 4 ⌝ }
-{
-    node::word(&words[4..], slot, 4)
+    tree::delete_end(&mut words[HEADER_WORDS..], side, root)
 }
 
 // Puts the range with its value into the pool.
 fn insert(words: &mut [u64], key: Interval, value: u64) -> Answer
     requires { ⌜ ((p : Pool) × Holds (now words) p) ⌝ }
-    ensures { λ r. ⌜ ((p : Pool) → Holds (now (words .entry)) p → Answers (now (words .entry)) (now (words .exit)) r (insert-into (find (range-of key) (p .tree)) (p .free) (range-of key) value p)) ⌝ }
+    ensures { λ r. ⌜ ((p : Pool) → Holds (now (words .entry)) p → Answers (now (words .entry)) (now (words .exit)) (number-of r) (insert-into (find (range-of key) (p .tree)) (p .free) (range-of key) value p)) ⌝ }
 {
     let root = words[0];
     let free = words[1];
     if free == 0 {
-        if contains_slot(words, root, key) {
+        if tree::contains(pool::slots(words), root, key.start, key.end) {
             return Answer::There;
         }
         return Answer::Full;
     }
-    let next = next_free(words, free);
+    let next = node::word(pool::slots(words), free, 4);
     let top = insert_slot(words, root, key, value, free);
     if top == 0 {
         return Answer::There;
@@ -89,7 +74,7 @@ fn insert(words: &mut [u64], key: Interval, value: u64) -> Answer
 // Takes the range out of the pool.
 fn delete(words: &mut [u64], key: Interval) -> Answer
     requires { ⌜ ((p : Pool) × Holds (now words) p) ⌝ }
-    ensures { λ r. ⌜ ((p : Pool) → Holds (now (words .entry)) p → Answers (now (words .entry)) (now (words .exit)) r (delete-from (find (range-of key) (p .tree)) (range-of key) p)) ⌝ }
+    ensures { λ r. ⌜ ((p : Pool) → Holds (now (words .entry)) p → Answers (now (words .entry)) (now (words .exit)) (number-of r) (delete-from (find (range-of key) (p .tree)) (range-of key) p)) ⌝ }
 {
     let root = words[0];
     let gone = delete_slot(words, root, key);
@@ -104,7 +89,7 @@ fn delete(words: &mut [u64], key: Interval) -> Answer
 // Takes the outermost entry on the side out of the pool.
 fn delete_end(words: &mut [u64], side: Side) -> Answer
     requires { ⌜ ((p : Pool) × Holds (now words) p) ⌝ }
-    ensures { λ r. ⌜ ((p : Pool) → Holds (now (words .entry)) p → Answers (now (words .entry)) (now (words .exit)) r (delete-end-from (side-of side) (p .tree) p)) ⌝ }
+    ensures { λ r. ⌜ ((p : Pool) → Holds (now (words .entry)) p → Answers (now (words .entry)) (now (words .exit)) (number-of r) (delete-end-from (side-of side) (p .tree) p)) ⌝ }
 {
     let root = words[0];
     if root == 0 {
@@ -118,26 +103,45 @@ fn delete_end(words: &mut [u64], side: Side) -> Answer
 // Takes all ranges out of the pool.
 fn clear(words: &mut [u64]) -> Answer
     requires { ⌜ ((p : Pool) × Holds (now words) p) ⌝ }
-    ensures { λ r. ⌜ ((p : Pool) → Holds (now (words .entry)) p → Answers (now (words .entry)) (now (words .exit)) r (changed (fresh (capacity (length (now (words .entry))))))) ⌝ }
+    ensures { λ r. ⌜ ((p : Pool) → Holds (now (words .entry)) p → Answers (now (words .entry)) (now (words .exit)) (number-of r) (changed (fresh (capacity (length (now (words .entry))))))) ⌝ }
 {
     pool::format(words);
     Answer::Done
 }
 
-// Serves a request without its rows: what a query overlaps is not looked for.
-pub fn edit(words: &mut [u64], request: Request) -> Answer
+// Answers a request without its rows: what a query overlaps is not looked for.
+fn answer(words: &mut [u64], request: Request) -> Answer
+    requires { ⌜ ((p : Pool) × Holds (now words) p) ⌝ }
+    ensures { λ r. ⌜ ((p : Pool) → Holds (now (words .entry)) p → Answers (now (words .entry)) (now (words .exit)) (number-of r) (serve (capacity (length (now (words .entry)))) (request-of request) p)) ⌝ }
+{
+    match request {
+        Request::Insert {
+            bound,
+            start,
+            end,
+            value,
+        } => match request::range_to(bound, start, end) {
+            Included::Range(key) => insert(words, key, value),
+            Included::PastEnd => Answer::PastEnd,
+        },
+        Request::Delete { bound, start, end } => match request::range_to(bound, start, end) {
+            Included::Range(key) => delete(words, key),
+            Included::PastEnd => Answer::PastEnd,
+        },
+        Request::DeleteMin => delete_end(words, Side::Left),
+        Request::DeleteMax => delete_end(words, Side::Right),
+        Request::Clear => clear(words),
+        Request::Query { bound, start, end } => match request::range_to(bound, start, end) {
+            Included::Range(_) => Answer::Done,
+            Included::PastEnd => Answer::PastEnd,
+        },
+    }
+}
+
+// Serves a request without its rows, and answers its number.
+pub fn edit(words: &mut [u64], request: Request) -> u64
     requires { ⌜ ((p : Pool) × Holds (now words) p) ⌝ }
     ensures { λ r. ⌜ ((p : Pool) → Holds (now (words .entry)) p → Answers (now (words .entry)) (now (words .exit)) r (serve (capacity (length (now (words .entry)))) (request-of request) p)) ⌝ }
 {
-    match request::range_of(request) {
-        Included::PastEnd => Answer::PastEnd,
-        Included::Range(key) => match request {
-            Request::Insert { value, .. } => insert(words, key, value),
-            Request::Delete { .. } => delete(words, key),
-            Request::DeleteMin => delete_end(words, Side::Left),
-            Request::DeleteMax => delete_end(words, Side::Right),
-            Request::Clear => clear(words),
-            Request::Query { .. } => Answer::Done,
-        },
-    }
+    request::number_of(answer(words, request))
 }

@@ -33,17 +33,14 @@ returns c =
 edit-requires : tie.Need-edit-requires
 edit-requires c κs = held (c .before)
 
-number-of-requires : tie.Need-number-of-requires
-number-of-requires c κs = search needs
-
 same-length-2 : tie.Need-same-length-2
 same-length-2 c = search needs
 
 returns-2 : tie.Need-returns-2
 returns-2 c =
-    let served = c .before .before .before in
+    let served = c .before .before in
     let e = served .before .before in
-    edit-served (held e .1) (request-of (e .before .before .before .before .before .args .request)) (c .number-of .ensures) (served .edit .ensures (held e .0) (held e .1))
+    edit-served (held e .1) (request-of (e .before .before .before .before .before .args .request)) (served .edit .ensures (held e .0) (held e .1))
 
 pub edit-spec : {M : Type 1} → statement M
 edit-spec =
@@ -54,6 +51,5 @@ edit-spec =
     same-length
     returns
     edit-requires
-    number-of-requires
     same-length-2
     returns-2)

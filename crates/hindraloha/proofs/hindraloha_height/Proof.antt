@@ -6,10 +6,9 @@ use native.Mathlib.Omega.{arith}
 use lib.ListN.{drop}
 use mir.Syntax.{w64}
 use mir.ValLaws.{toZ-pos}
-use Rattle.rules.specs.Limits.{half}
-use Rattle.rules.specs.Stored.{slot-word}
-use Rattle.pool.proofs.Parts.{part-lent}
+use Rattle.rules.specs.Limits.{header-words, half}
 use Rattle.rules.specs.Pool.{Pool, Holds}
+use Rattle.rules.specs.Stored.{slot-word}
 use Rattle.query.proofs.Asking.{header-in}
 use Rattle.guard.proofs.Guarded.{passed, passed-zero}
 use Rattle.hindraloha.proofs.Telling.{height-refused, no-height-told, height-told, root-there}
@@ -44,33 +43,26 @@ returns-2 c =
     let e = c .before .before in
     rw (zero e) (no-height-told (held e .1) _ (c .before .root .ensures) (c .if2 .taken))
 
-sub-word : tie.Need-sub-word
-sub-word c = let there = header-in (held (c .before .before) .1) in omega arith
-
-part-word-start : tie.Need-part-word-start
-part-word-start c = let there = header-in (held (c .before .before) .1) in omega arith
-
-part-word-end : tie.Need-part-word-end
-part-word-end c = search needs
+slots-requires : tie.Need-slots-requires
+slots-requires c κs = header-in (held (c .before .before) .1)
 
 word-requires : tie.Need-word-requires
 word-requires c κs =
     let rooted = c .before .before in
-    let e = rooted .before in
-    rw (part-lent 4 (ws e)) (root-there (held e .1) _ (rooted .root .ensures) (c .before .if2 .left), omega arith)
+    (rw (c .slots .ensures) (root-there (held (rooted .before) .1) _ (rooted .root .ensures) (c .before .if2 .left)), omega arith)
 
 low-requires : tie.Need-low-requires
 low-requires c κs = search needs
 
-cast-t12 : tie.Need-cast-t12
-cast-t12 c = search needs
+cast-t9 : tie.Need-cast-t9
+cast-t9 c = search needs
 
 returns-3 : tie.Need-returns-3
 returns-3 c =
     let rooted = c .before .before .before .before in
     let e = rooted .before in
-    let word = rw (part-lent 4 (ws e)) at (c .before .word .ensures) in
-    let low : c .low .result ≡ slot-word (drop 4 (ws e)) (rooted .root .result) 5 % half = c .low .ensures ∙ ap (λ (w : ℕ). w % half) word in
+    let word = rw (c .before .before .slots .ensures) at (c .before .word .ensures) in
+    let low : c .low .result ≡ slot-word (drop header-words (ws e)) (rooted .root .result) 5 % half = c .low .ensures ∙ ap (λ (w : ℕ). w % half) word in
     rw (zero e, toZ-pos w64 (c .low .result) (omega arith)) (height-told (held e .1) _ (rooted .root .ensures) (c .before .before .before .if2 .left) _ low)
 
 pub hindraloha-height-spec : {M : Type 1} → statement M
@@ -82,10 +74,8 @@ hindraloha-height-spec =
     returns
     root-requires
     returns-2
-    sub-word
-    part-word-start
-    part-word-end
+    slots-requires
     word-requires
     low-requires
-    cast-t12
+    cast-t9
     returns-3)

@@ -77,14 +77,11 @@ means-requires c κs =
 edit-requires : tie.Need-edit-requires
 edit-requires c κs = search needs
 
-number-of-requires-3 : tie.Need-number-of-requires-3
-number-of-requires-3 c κs = search needs
-
 is-refusal-requires : tie.Need-is-refusal-requires
 is-refusal-requires c κs = search needs
 
-add-t25 : tie.Need-add-t25
-add-t25 c = search needs
+add-t24 : tie.Need-add-t24
+add-t24 c = search needs
 
 returns-2 : tie.Need-returns-2
 returns-2 c p h there =
@@ -97,22 +94,20 @@ same-length c = search needs
 
 returns-3 : tie.Need-returns-3
 returns-3 c p h there =
-    let told = c .before .before in
-    let edited = told .before .before .before in
+    let edited = c .before .before .before .before in
     let m = edited .before in
     turned-off (bytes (m .before .before .before .before .before .before .before)) (request-of (m .means .result)) h there
-    (whole-read m there) (told .number-of3 .ensures) (edited .edit .ensures p h) (sym (c .before .is-refusal .ensures) ∙ c .if2 .taken)
+    (whole-read m there) (edited .edit .ensures p h) (sym (c .before .is-refusal .ensures) ∙ c .if2 .taken)
 
 same-length-2 : tie.Need-same-length-2
 same-length-2 c = search needs
 
 returns-4 : tie.Need-returns-4
 returns-4 c p h there =
-    let told = c .before .before in
-    let edited = told .before .before .before in
+    let edited = c .before .before .before .before in
     let m = edited .before in
     turned-on (bytes (m .before .before .before .before .before .before .before)) (request-of (m .means .result)) h there
-    (whole-read m there) (told .number-of3 .ensures) (edited .edit .ensures p h) (sym (c .before .is-refusal .ensures) ∙ c .if2 .left)
+    (whole-read m there) (edited .edit .ensures p h) (sym (c .before .is-refusal .ensures) ∙ c .if2 .left)
 
 pub feed-one-spec : {M : Type 1} → statement M
 feed-one-spec =
@@ -130,9 +125,8 @@ feed-one-spec =
     returns
     means-requires
     edit-requires
-    number-of-requires-3
     is-refusal-requires
-    add-t25
+    add-t24
     returns-2
     same-length
     returns-3

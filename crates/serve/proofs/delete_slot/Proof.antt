@@ -1,4 +1,5 @@
 -- `delete_slot` is `tree::delete` on the words after the header, and keeps the header. Assumes nothing.
+use Rattle.rules.specs.Limits.{header-words}
 use borrow.Author.Needs.{needs}
 use Rattle.pool.proofs.Parts.{part-lent, front-after, part-after}
 use Rattle.serve.proofs.delete_slot.Statement.{statement}
@@ -16,7 +17,7 @@ part-delete-end c = search needs
 delete-requires : tie.Need-delete-requires
 delete-requires c κs =
     let start = c .before .before in
-    rw (part-lent 4 (start .args .words .now)) (start .pre .1)
+    rw (part-lent header-words (start .args .words .now)) (start .pre .1)
 
 same-length : tie.Need-same-length
 same-length c = search needs
@@ -27,8 +28,8 @@ returns c =
     let ws = start .args .words .now in
     let last = c .before .before .delete .last .0 in
     let fits = start .pre .0 in (
-      front-after 4 ws last fits,
-      rw (part-after 4 ws last fits) (rw (part-lent 4 ws) at (c .before .before .delete .ensures)),
+      front-after header-words ws last fits,
+      rw (part-after header-words ws last fits) (rw (part-lent header-words ws) at (c .before .before .delete .ensures)),
     )
 
 pub delete-slot-spec : {M : Type 1} → statement M

@@ -28,7 +28,14 @@ fn insert_slot(words: &mut [u64], root: u64, key: Interval, value: u64, new: u64
     ensures kept { λ _. ⌜ take header-words (now (words .exit)) ≡ take header-words (now (words .entry)) ⌝ }
     ensures done { λ r. ⌜ ((t : Tree) → Inserting (drop header-words (now (words .entry))) root new t → Inserts r (drop header-words (now (words .entry))) (drop header-words (now (words .exit))) (entry new (key .start) (key .end) value) t) ⌝ }
 {
-    tree::insert(&mut words[HEADER_WORDS..], root, key.start, key.end, value, new)
+    tree::insert(
+        &mut words[HEADER_WORDS..],
+        root,
+        key.start,
+        key.end,
+        value,
+        new,
+    )
 }
 
 // `tree::delete` from the slots.

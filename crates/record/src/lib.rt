@@ -38,7 +38,7 @@ enum Turn {
 }
 
 // What applying a record came to: where it is refused, none of its bytes is taken.
-pub fn outcome(number: u64, taken: usize, hits: usize) -> Applied
+fn outcome(number: u64, taken: usize, hits: usize) -> Applied
     ensures { λ r. ⌜ r ≡ came-to number taken hits ⌝ }
 {
     if request::is_refusal(number) {

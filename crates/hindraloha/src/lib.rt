@@ -2,8 +2,8 @@
 // document 01's entry, for every input: `rules/specs/Entries.antt`.
 pub mod by_records; // the query that fills a lent list of hit records
 
-use record::Applied;
-use record::Fed;
+use record::Records;
+use record::Taken;
 use request::Request;
 ghost use mathlib.Core.Path.{_≡_};
 ghost use Rattle.rules.specs.Balance.{left, right};
@@ -207,12 +207,12 @@ pub extern "C" fn hindraloha_query(
 
 // Applies the record at the front of the bytes. Only a query writes to the lent run of rows.
 #[no_mangle]
-pub extern "C" fn hindraloha_apply(pool: &mut [u64], bytes: &[u8], rows: &mut [u64]) -> Applied
+pub extern "C" fn hindraloha_apply(pool: &mut [u64], bytes: &[u8], rows: &mut [u64]) -> Taken
     ensures { λ r. ⌜ applied-of r (now (pool .exit)) (now (rows .exit)) ≡ apply (now (bytes .entry)) (now (pool .entry)) (now (rows .entry)) ⌝ }
 {
     let number = guard::check(pool);
     if request::is_refusal(number) {
-        return Applied {
+        return Taken {
             number,
             taken: 0,
             hits: 0,
@@ -223,12 +223,12 @@ pub extern "C" fn hindraloha_apply(pool: &mut [u64], bytes: &[u8], rows: &mut [u
 
 // Applies records until the bytes end or one is refused.
 #[no_mangle]
-pub extern "C" fn hindraloha_feed(pool: &mut [u64], bytes: &[u8]) -> Fed
+pub extern "C" fn hindraloha_feed(pool: &mut [u64], bytes: &[u8]) -> Records
     ensures { λ r. ⌜ fed-of r (now (pool .exit)) ≡ feed (now (bytes .entry)) (now (pool .entry)) ⌝ }
 {
     let number = guard::check(pool);
     if request::is_refusal(number) {
-        return Fed {
+        return Records {
             number,
             records: 0,
             taken: 0,

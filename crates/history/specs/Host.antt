@@ -10,8 +10,8 @@ use Rattle.held.specs.Records.{words-of}
 use Rattle.held.specs.declared.Hit.{Hit}
 use Rattle.guard.specs.Flag.{end-of-flag}
 use Rattle.record.specs.Answers.{applied-of, fed-of}
-use Rattle.record.specs.declared.Applied.{Applied}
-use Rattle.record.specs.declared.Fed.{Fed}
+use Rattle.record.specs.declared.Taken.{Taken}
+use Rattle.record.specs.declared.Records.{Records}
 use Rattle.hindraloha.specs.Entries.{edited, queried}
 use Rattle.hindraloha.specs.declared.Answer.{Answer}
 use Rattle.hindraloha.specs.declared.Hits.{Hits}
@@ -37,9 +37,9 @@ pub data Called (before after : List ℕ) : Event → ℕ → Type 0 where
   by-query-records : (r : Hits) (start end flag : ℕ) (rows written : List Hit) →
       queried r (words-of written) ≡ query (end-of-flag flag) start end before (words-of rows) → after ≡ before →
       Called before after (asking (querying (end-of-flag flag) start end)) (r .number)
-  by-apply : (r : Applied) (bytes rows written : List ℕ) → applied-of r after written ≡ apply bytes before rows →
+  by-apply : (r : Taken) (bytes rows written : List ℕ) → applied-of r after written ≡ apply bytes before rows →
       Called before after (applying bytes) (r .number)
-  by-feed : (r : Fed) (bytes : List ℕ) → fed-of r after ≡ feed bytes before → Called before after (feeding bytes) (r .number)
+  by-feed : (r : Records) (bytes : List ℕ) → fed-of r after ≡ feed bytes before → Called before after (feeding bytes) (r .number)
 
 -- "take any pool that is formatted and from then on written only by entry calls": the words `ws` were formatted, and
 -- after these calls, the latest first, the pool's words are `now`

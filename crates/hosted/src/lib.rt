@@ -8,8 +8,8 @@ pub mod by_records; // the query that fills a lent list of hit records
 
 use hindraloha::Answer;
 use hindraloha::Hits;
-use record::Applied;
-use record::Fed;
+use record::Records;
+use record::Taken;
 ghost use mathlib.Core.Path.{_≡_};
 ghost use Rattle.rules.specs.Balance.{left, right};
 ghost use Rattle.rules.specs.Request.{inserting, deleting, deleting-end, clearing, querying};
@@ -70,14 +70,14 @@ pub fn query(pool: &[u64], start: u64, end: u64, included: u8, rows: &mut [u64])
 }
 
 // Applies one record.
-pub fn apply(pool: &mut [u64], bytes: &[u8], rows: &mut [u64]) -> Applied
+pub fn apply(pool: &mut [u64], bytes: &[u8], rows: &mut [u64]) -> Taken
     ensures { λ r. ⌜ (Called (now (pool .entry)) (now (pool .exit)) (applying (now (bytes .entry))) (r .number)) × (applied-of r (now (pool .exit)) (now (rows .exit)) ≡ apply (now (bytes .entry)) (now (pool .entry)) (now (rows .entry))) ⌝ }
 {
     hindraloha::hindraloha_apply(pool, bytes, rows)
 }
 
 // Feeds records.
-pub fn feed(pool: &mut [u64], bytes: &[u8]) -> Fed
+pub fn feed(pool: &mut [u64], bytes: &[u8]) -> Records
     ensures { λ r. ⌜ (Called (now (pool .entry)) (now (pool .exit)) (feeding (now (bytes .entry))) (r .number)) × (fed-of r (now (pool .exit)) ≡ feed (now (bytes .entry)) (now (pool .entry))) ⌝ }
 {
     hindraloha::hindraloha_feed(pool, bytes)

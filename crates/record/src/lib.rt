@@ -17,7 +17,7 @@ ghost use Rattle.record.specs.Applying.{came-to, Turned};
 
 // What applying a record did: its number, the bytes taken, and the hits.
 #[repr(C)]
-pub struct Applied {
+pub struct Taken {
     pub number: u64,
     pub taken: usize,
     pub hits: usize,
@@ -25,7 +25,7 @@ pub struct Applied {
 
 // What a feed came to: the number it ended with, the records applied and their bytes.
 #[repr(C)]
-pub struct Fed {
+pub struct Records {
     pub number: u64,
     pub records: usize,
     pub taken: usize,
@@ -33,22 +33,22 @@ pub struct Fed {
 
 // One turn of a feed: a record of so many bytes was applied, or one was refused.
 enum Turn {
-    Taken(usize),
+    Applied(usize),
     Refused(u64),
 }
 
 // What applying a record came to: where it is refused, none of its bytes is taken.
-fn outcome(number: u64, taken: usize, hits: usize) -> Applied
+fn outcome(number: u64, taken: usize, hits: usize) -> Taken
     ensures { λ r. ⌜ r ≡ came-to number taken hits ⌝ }
 {
     if request::is_refusal(number) {
-        return Applied {
+        return Taken {
             number,
             taken: 0,
             hits,
         };
     }
-    Applied {
+    Taken {
         number,
         taken,
         hits,
@@ -56,7 +56,7 @@ fn outcome(number: u64, taken: usize, hits: usize) -> Applied
 }
 
 // Serves what a record of `taken` bytes asked. Only a query writes to the lent run of rows.
-fn apply_request(words: &mut [u64], request: Request, taken: usize, rows: &mut [u64]) -> Applied
+fn apply_request(words: &mut [u64], request: Request, taken: usize, rows: &mut [u64]) -> Taken
     requires { ⌜ ((p : Pool) × Holds (now words) p) ⌝ }
     ensures { λ r. ⌜ ((p : Pool) → Holds (now (words .entry)) p → applied-of r (now (words .exit)) (now (rows .exit)) ≡ apply-read (whole (request-of request) taken) (capacity (length (now (words .entry)))) p (now (rows .entry))) ⌝ }
 {
@@ -69,7 +69,7 @@ fn apply_request(words: &mut [u64], request: Request, taken: usize, rows: &mut [
 }
 
 // Applies the record at the front of the bytes. Only a query writes to the lent run of rows.
-pub fn apply(words: &mut [u64], bytes: &[u8], rows: &mut [u64]) -> Applied
+pub fn apply(words: &mut [u64], bytes: &[u8], rows: &mut [u64]) -> Taken
     requires { ⌜ ((p : Pool) × Holds (now words) p) ⌝ }
     ensures { λ r. ⌜ ((p : Pool) → Holds (now (words .entry)) p → applied-of r (now (words .exit)) (now (rows .exit)) ≡ apply-read (reads kinds (now (bytes .entry))) (capacity (length (now (words .entry)))) p (now (rows .entry))) ⌝ }
 {
@@ -97,14 +97,14 @@ fn feed_one(words: &mut [u64], bytes: &[u8]) -> Turn
             if request::is_refusal(number) {
                 Turn::Refused(number)
             } else {
-                Turn::Taken(n + 1)
+                Turn::Applied(n + 1)
             }
         }
     }
 }
 
 // Applies records until the bytes end or one is refused.
-pub fn feed(words: &mut [u64], bytes: &[u8]) -> Fed
+pub fn feed(words: &mut [u64], bytes: &[u8]) -> Records
     requires { ⌜ ((p : Pool) × Holds (now words) p) ⌝ }
     ensures { λ r. ⌜ ((p : Pool) → Holds (now (words .entry)) p → fed-of r (now (words .exit)) ≡ fed (capacity (length (now (words .entry)))) (feed-turns (serve (capacity (length (now (words .entry))))) (length (now (bytes .entry))) (now (bytes .entry)) p)) ⌝ }
 {
@@ -112,12 +112,12 @@ pub fn feed(words: &mut [u64], bytes: &[u8]) -> Fed
     let mut records = 0;
     while at < bytes.len() {
         match feed_one(words, &bytes[at..]) {
-            Turn::Taken(taken) => {
+            Turn::Applied(taken) => {
                 at += taken;
                 records += 1;
             }
             Turn::Refused(number) => {
-                return Fed {
+                return Records {
                     number,
                     records,
                     taken: at,
@@ -125,7 +125,7 @@ pub fn feed(words: &mut [u64], bytes: &[u8]) -> Fed
             }
         }
     }
-    Fed {
+    Records {
         number: request::number_of(Answer::Done),
         records,
         taken: at,

@@ -36,12 +36,13 @@ write-back (suc n) (b ∷ bs) (all-cons p a) h =
     let high : (b + 256 * y) / 256 ≡ y = omega arith in
     rw (low, high, write-back n bs a (omega arith))
 
--- the same from byte i on, where byte j is the next after the n
+-- what holds of all bytes holds of those from byte i on
 all-drop : (i : ℕ) {bs : List ℕ} → All (_< 256) bs → All (_< 256) (drop i bs)
 all-drop zero a = a
 all-drop (suc i) all-nil = all-nil
 all-drop (suc i) (all-cons p a) = all-drop i a
 
+-- so it is with n bytes from byte i on, where byte j is the next after them
 write-at : (i n j : ℕ) (bs : List ℕ) → All (_< 256) bs → i + n ≡ j → j ≤ length bs →
     bytes-of n (little-endian n (drop i bs)) ++ drop j bs ≡ drop i bs
 write-at i n j bs a e h =

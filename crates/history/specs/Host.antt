@@ -18,7 +18,7 @@ use Rattle.hindraloha.specs.declared.Hits.{Hits}
 
 -- One call on the words `before`, which leaves the words `after`, by the contract of its entry. The call is an event of
 -- the history with the number that it was answered with. hindraloha_check, _size, _height and _is_empty are lent the
--- pool to read only: they leave all words, and are no events. The crate `hosted` shows that no other call is left out.
+-- pool to read only: they leave all words, and are no events. The crate `hosted` calls each other entry as its case.
 pub data Called (before after : List ℕ) : Event → ℕ → Type 0 where
   by-format : (r : Answer) → edited r after ≡ format before → Called before after formatting (r .number)
   by-insert : (r : Answer) (start end flag value : ℕ) →

@@ -55,11 +55,11 @@ pub entry_read : {ss : List ℕ} {e : Entry} → Bears ss e → entry_at ss e.sl
 entry_read b = simp (b.start_word, b.end_word, b.value_word)
 
 -- a stored tree is read back by its links
-pub tree-read : (n : ℕ) {ss : List ℕ} {t : Tree} → Stored ss t → length ss ≤ slot_words * most_slots → levels t ≤ n
+pub tree-read : {ss : List ℕ} (n : ℕ) {t : Tree} → Stored ss t → length ss ≤ slot_words * most_slots → levels t ≤ n
     → tree_at n ss (root t) ≡ t
 tree-read n none h k = no_tree-at n _
 tree-read zero (live b w p q) h k = absurd (omega arith)
-tree-read (suc n) {ss} (live {e} {l} {r} b w p q) h k =
+tree-read {ss} (suc n) (live {e} {l} {r} b w p q) h k =
     let fits = root-fits p h in
     cc (
       some-tree_at n ss e.slot b.at.from_one,
@@ -71,10 +71,10 @@ tree-read (suc n) {ss} (live {e} {l} {r} b w p q) h k =
     )
 
 -- and a chain
-pub chain-read : (n : ℕ) {ss xs : List ℕ} → Chained ss xs → length xs ≤ n → chain_at n ss (first xs) ≡ xs
+pub chain-read : {ss : List ℕ} (n : ℕ) {xs : List ℕ} → Chained ss xs → length xs ≤ n → chain_at n ss (first xs) ≡ xs
 chain-read n ends k = no_chain_at n _
 chain-read zero (goes_on f p) k = absurd (omega arith)
-chain-read (suc n) {ss} (goes_on {s = s} {xs = xs} f p) k =
+chain-read {ss} (suc n) (goes_on {s = s} {xs = xs} f p) k =
     cc (some-chain_at n ss s f.at.from_one, f.links_word, chain-read n p (omega arith))
 
 -- so what is read from words that hold a pool is that pool

@@ -1,5 +1,6 @@
 // The definitions of document 01 (specs/) and their laws (proofs/). The code has only the numbers that a later request may
 // raise, each named once, as in specs/Limits.antt.
+#![tactic(auto)]
 
 // "A pool has 1 to 4,095 slots."
 pub const MOST_SLOTS: usize = 4095;

@@ -1,10 +1,12 @@
 // interval.rs of the crate: a range of track, its order, and what two ranges share.
+#![tactic(auto)]
+
 ghost use Rattle.std.specs.Prelude.{◌≡◌, max, min};
 ghost use Rattle.rules.specs.Range.{range, order, is_less, is_same, is_valid, overlaps, intersect, range_to, included};
 ghost use Rattle.interval.specs.Interval.{range_of, order_of, shared_of, included_of};
 
 // How two ranges stand.
-#[derive(Drop)]
+#[derive(Clone, Copy)]
 pub enum Ordering {
     Less,
     Equal,
@@ -12,21 +14,21 @@ pub enum Ordering {
 }
 
 // start..end
-#[derive(Drop)]
+#[derive(Clone, Copy)]
 pub struct Interval {
     pub start: u64,
     pub end: u64,
 }
 
 // What two ranges share: a range, or nothing.
-#[derive(Drop)]
+#[derive(Clone, Copy)]
 pub enum Shared {
     Some(Interval),
     None,
 }
 
 // The range up to an end that is included, or none: past the largest number there is no end.
-#[derive(Drop)]
+#[derive(Clone, Copy)]
 pub enum Included {
     Range(Interval),
     PastEnd,

@@ -1,4 +1,6 @@
 // node.rs of the crate: a node's words in its slot. The slots are lent as the words after the header.
+#![tactic(auto)]
+
 ghost use Rattle.std.specs.Prelude.{◌≡◌, ◌+◌, ◌*◌, ◌%◌, ◌/◌, ◌≤◌, ◌<◌, max, length};
 ghost use Rattle.rules.specs.Tree.{Entry, Tree, node, leaf};
 ghost use Rattle.rules.specs.Range.{range};

@@ -1,4 +1,6 @@
 // lib.rs of the crate, first half: the rotations and `balance`, in place over slot numbers. A side serves for both.
+#![tactic(auto)]
+
 ghost use Rattle.std.specs.Prelude.{◌≡◌, ◌%◌, ◌/◌, ◌≤◌};
 ghost use Rattle.rules.specs.Tree.{Entry, Tree, levels};
 ghost use Rattle.rules.specs.Balance.{join, lift, straight, mend, balance, near, other};
@@ -11,7 +13,7 @@ ghost use Rattle.balance.specs.Sides.{side_of};
 use node::Factor;
 
 // Left or right.
-#[derive(Drop)]
+#[derive(Clone, Copy)]
 pub enum Side {
     Left,
     Right,

@@ -1,5 +1,7 @@
 // Document 01's clauses of "sound" that can be seen in one place: the order of two slots, a free slot, the header with its
 // root. Those of a slot with its children stand in `fitting`.
+#![tactic(auto)]
+
 ghost use Rattle.std.specs.Prelude.{◌≡◌, ◌++◌, ◌*◌, ◌≤◌, length};
 ghost use Rattle.rules.specs.Limits.{header_words, slot_words};
 ghost use Rattle.rules.specs.Pool.{ascending};

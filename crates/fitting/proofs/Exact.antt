@@ -1,6 +1,6 @@
 -- What is exact in a slot over its children, by how many it has: none, one on either side, or both. Assumes nothing.
 use Prim.Native.Nat.{ℕ, suc, ◌+◌, ◌*◌, ◌%◌, ◌/◌, max}
-use mathlib.Core.Bool.{◌&&◌, and_true, and-false, and_comm}
+use mathlib.Core.Bool.{◌&&◌, and-true, and-false, and_comm}
 use mathlib.Core.List.{List}
 use mathlib.Core.Logic.{⊎_elim}
 use mathlib.Core.Path.{◌≡◌, refl}
@@ -27,7 +27,7 @@ suc-max a b = omega arith
 -- the factor lets an only child have height 0 only, and the height above it is 1
 one-high : (h a : ℕ) → eqb h 1 && eqb a 0 ≡ (leb (suc a) (0 + 1) && leb 0 (suc a + 1)) && eqb h (max (suc a) 0)
 one-high h a =
-    ⊎_elim (λ y. rw y.0 (and_true (eqb h 1)))
+    ⊎_elim (λ y. rw y.0 (and-true (eqb h 1)))
     (λ n. rw (n.1, lt-leb (suc a) (0 + 1) (omega (arith, n.0))) (and-false (eqb h 1)))
     (eq_cases a 0)
 

@@ -1,5 +1,7 @@
 // Document 01's clauses of "sound" for a slot with its children: height, size and max are exact, the heights of the children
 // differ by one at most, and each of them is a slot or none.
+#![tactic(auto)]
+
 ghost use Rattle.std.specs.Prelude.{◌≡◌, ◌/◌, ◌%◌, ◌^◌, ◌≤◌, ◌<◌};
 ghost use Rattle.rules.specs.Limits.{half};
 ghost use Rattle.rules.specs.Stored.{slot_word, Within};

@@ -1,4 +1,6 @@
 // What is added around the slots: the lengths of a pool, its header, formatting, and the free chain's first slot.
+#![tactic(auto)]
+
 ghost use Rattle.std.specs.Prelude.{true, ◌≡◌, ◌+◌, ◌*◌, ◌/◌, ◌≤◌, ◌<◌, length, get_or, drop};
 ghost use Rattle.rules.specs.Limits.{header_words, slot_words, half};
 ghost use Rattle.rules.specs.Tree.{leaf};

@@ -1,5 +1,7 @@
 // What is asked of a pool and what it is answered: the requests, the range that one is about, and the answers with document
 // 01's numbers.
+#![tactic(auto)]
+
 ghost use Rattle.std.specs.Prelude.{◌≡◌};
 ghost use Rattle.rules.specs.Range.{range_to};
 ghost use Rattle.rules.specs.Request.{is_refusal};

@@ -1,5 +1,7 @@
 // iterators.rs of the crate: the query walk, over slot numbers. The slots are lent as the words after the header, the
 // pending nodes as a stack of their slots.
+#![tactic(auto)]
+
 ghost use Rattle.std.specs.Prelude.{◌≡◌, cond, List, ℕ, suc, ◌<◌, eqb, set};
 ghost use Rattle.rules.specs.Limits.{most_pending};
 ghost use Rattle.rules.specs.Range.{range, overlaps};

@@ -1,4 +1,6 @@
 // Reading one survey record from any bytes: a byte of kind, then a body whose length the kind fixes.
+#![tactic(auto)]
+
 ghost use Rattle.std.specs.Prelude.{◌≡◌, ◌+◌, ◌≤◌, ◌<◌, length, get_or};
 ghost use Rattle.std.proofs.Math.Option.{some};
 ghost use Rattle.rules.specs.Record.{metre, u32_at, u64_at, insert_by, insert_exact, with_pair};

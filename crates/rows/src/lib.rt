@@ -1,4 +1,6 @@
 // The query by words: a walk to its end, with a row written for each hit while there is room.
+#![tactic(auto)]
+
 ghost use Rattle.std.specs.Prelude.{◌≡◌, [], ◌+◌, ◌≤◌, length};
 ghost use Rattle.std.proofs.Math.Option.{Option};
 ghost use Rattle.rules.specs.Limits.{most_slots};

@@ -1,6 +1,8 @@
 // After an edit below: a node whose child has one entry more, or one less, is settled. Where the child kept its slot and its
 // height, the node only counts the entry and looks at its end (`count`, `discount`). An answer has two halves: the slot of
 // the root, and 1 where its height is another one than before.
+#![tactic(auto)]
+
 ghost use Rattle.std.specs.Prelude.{◌≡◌, ◌+◌, ◌-◌, ◌*◌, ◌%◌, ◌/◌, ◌≤◌, ◌<◌, max, length};
 ghost use Rattle.rules.specs.Tree.{Entry, Tree, levels};
 ghost use Rattle.rules.specs.Balance as sides;

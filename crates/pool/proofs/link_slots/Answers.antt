@@ -1,14 +1,8 @@
 -- `link_slots` frees each slot from the last to the first. The loop's invariant: the slots after `s` are chained, and
 -- `next` is the first of them. The measure is `s`. Assumes nothing.
 use native.Mathlib.Omega.{arith}
-use Rattle.pool.proofs.Chains.{Linked, linked-none, linked-within, linked-more, linked-all}
+use Rattle.pool.proofs.Chains.{linked-none, linked-within, linked-more, linked-all}
 use Rattle.pool.proofs.link_slots.Goals as goal
-
-abbrev invariant-loop : tie.invariant-loop
-invariant-loop slots₀ next₀ s₀ slots next s = Linked slots₀ slots next s
-
-abbrev decreases-loop : tie.decreases-loop
-decreases-loop slots₀ next₀ s₀ slots next s = s
 
 pub loop-s-init : goal.loop-s-init
 loop-s-init c = linked-none c.args.slots.now
@@ -24,8 +18,7 @@ loop-s-smaller c = omega arith
 
 pub loop-s-preserved : goal.loop-s-preserved
 loop-s-preserved c =
-    let turn = c in
-    rw c.free_slot.ensures (linked-more turn.loop-s.invariant turn.loop-s-test.true)
+    rw c.free_slot.ensures (linked-more c.loop-s.invariant c.loop-s-test.true)
 
 pub shape_of-slots : goal.shape_of-slots
 shape_of-slots c = c.loop-s.invariant.long

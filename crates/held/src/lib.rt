@@ -2,6 +2,8 @@
 // query that fills a lent list of hit records. The borrow checker covers no function over a struct that holds a slice, nor
 // over a slice of structs, so `new`, `next`, `first`, `fill` and `query` are thin and proved by hand; the work is in the
 // others, which are covered.
+#![tactic(auto)]
+
 ghost use Rattle.std.specs.Prelude.{◌≡◌, true, cond, suc, ◌+◌, ◌≤◌, length};
 ghost use Rattle.std.proofs.Math.Option.{Option};
 ghost use Rattle.rules.specs.Limits.{most_slots};

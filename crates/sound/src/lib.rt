@@ -1,4 +1,6 @@
 // The soundness check of document 01: whether lent words hold a pool, and so whether an entry may go to work on them.
+#![tactic(auto)]
+
 ghost use Rattle.std.specs.Prelude.{◌≡◌, true, ◌*◌, ◌≤◌, ◌<◌, eqb, length, get_or, set};
 ghost use Rattle.rules.specs.Limits.{slot_words};
 ghost use Rattle.rules.specs.Pool.{right_length};

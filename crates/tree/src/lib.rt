@@ -1,5 +1,7 @@
 // lib.rs of the crate, second half: insert and the removals, by recursion over slot numbers, the height falling; and,
 // added, whether a range is there.
+#![tactic(auto)]
+
 ghost use Rattle.std.specs.Prelude.{◌≡◌, ◌≤◌};
 ghost use Rattle.rules.specs.Tree.{Entry, Tree, node, levels};
 ghost use Rattle.rules.specs.Edit.{find, is_some, close};

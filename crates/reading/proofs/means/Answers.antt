@@ -27,7 +27,7 @@ with_pair-requires c =
 
 pub with_pair-requires-in_default : goal.with_pair-requires-in_default
 with_pair-requires-in_default c =
-    enough-at c.args.body.now (ninth _ _ c.requires c.in-1.rest) c.requires
+    enough-at c.args.body.now (ninth _ _ c.requires c.in_default.in_default-own.rest) c.requires
 
 pub returns-in-1 : goal.returns-in-1
 returns-in-1 c = rw c.in-1.is (ap some (sym c.insert_by.ensures))
@@ -55,5 +55,5 @@ returns-in-8 c = rw c.in-8.is
 
 pub returns-in_default : goal.returns-in_default
 returns-in_default c =
-    rw (ninth _ _ c.requires (let h = c.in_default in ?))
+    rw (ninth _ _ c.requires c.in_default.in_default-own.rest)
     (ap some (sym c.with_pair-in_default.ensures))

@@ -1,4 +1,6 @@
 // Survey records to a sound pool: one record applied, and a feed of them.
+#![tactic(auto)]
+
 ghost use Rattle.std.specs.Prelude.{◌≡◌, ◌≤◌, length};
 ghost use Rattle.rules.specs.Pool.{Pool, Holds, capacity};
 ghost use Rattle.rules.specs.Record.{whole, kinds, reads};

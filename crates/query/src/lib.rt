@@ -15,7 +15,7 @@ use rules::HEADER_WORDS;
 
 // What is to be walked for a query: the query's number, the word that the slots begin at, the slot of the root, 0 for
 // none, and the range.
-#[derive(Drop)]
+#[derive(Clone, Copy)]
 pub struct Asked {
     pub number: u64,
     pub first: usize,

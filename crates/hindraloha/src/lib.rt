@@ -1,5 +1,7 @@
 // The entries that a host calls, with plain numbers and lent memory. Each has a contract that is one equation with
 // document 01's entry, for every input: `rules/specs/Entries.antt`.
+#![tactic(auto)]
+
 pub mod by_records; // the query that fills a lent list of hit records
 
 ghost use Rattle.std.specs.Prelude.{◌≡◌};

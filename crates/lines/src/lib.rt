@@ -1,3 +1,5 @@
 // The lines of a recorded list as they come, byte by byte, and what is noted from line to line. Nothing here knows a pool.
+#![tactic(auto)]
+
 pub mod line;
 pub mod notes;

@@ -11,25 +11,28 @@ link_all_but() {
     done
 }
 
-# Lays out a kit of links to the real one, whose clang also keeps the bitcode that it is given.
+# Lays out a kit of links to the real one, whose clang also keeps the bitcode that it is given. rt takes the folder above
+# its own for the kit, so its two files of Python are copies.
 lay_out_kit() {
     rt=$(readlink -f "$(command -v rt)") || return 1
-    kit=${RATTLE_HOME:-${rt%/bin/rt}}
-    clang=$kit/on/$machine/toolchain/bin/clang
+    kit=${rt%/bin/rt}
+    clang=$kit/toolchain/bin/clang
     [ -x "$clang" ] || return 1
-    tools=on/$machine/toolchain
-    link_all_but "$kit" "$made/kit" on
-    link_all_but "$kit/on/$machine" "$made/kit/on/$machine" toolchain
-    link_all_but "$kit/$tools" "$made/kit/$tools" bin
-    link_all_but "$kit/$tools/bin" "$made/kit/$tools/bin" clang
-    cat >"$made/kit/$tools/bin/clang" <<END
+    link_all_but "$kit" "$made/kit" bin
+    rm "$made/kit/toolchain"
+    link_all_but "$kit/bin" "$made/kit/bin" rt
+    rm "$made/kit/bin/rtlib.py"
+    cp "$rt" "$kit/bin/rtlib.py" "$made/kit/bin/"
+    link_all_but "$kit/toolchain" "$made/kit/toolchain" bin
+    link_all_but "$kit/toolchain/bin" "$made/kit/toolchain/bin" clang
+    cat >"$made/kit/toolchain/bin/clang" <<END
 #!/bin/sh
 for word in "\$@"; do
     case \$word in *.bc) cp "\$word" "$made/module.bc" ;; esac
 done
 exec "$clang" "\$@"
 END
-    chmod +x "$made/kit/$tools/bin/clang"
+    chmod +x "$made/kit/toolchain/bin/clang"
 }
 
 # The lines that say what an LLVM module is for: those of this processor.
@@ -42,7 +45,7 @@ target_lines() {
 write_entries() {
     rm -rf "$made"
     mkdir -p "$made"
-    lay_out_kit && RATTLE_HOME=$made/kit rt staticlib hindraloha >"$made/staticlib.txt" 2>&1 && [ -s "$made/module.bc" ] &&
+    lay_out_kit && (cd crates/hindraloha_c && "$made/kit/bin/rt" lib) >"$made/staticlib.txt" 2>&1 && [ -s "$made/module.bc" ] &&
         "$clang" --target=x86_64-unknown-linux-gnu --no-default-config -Xclang -disable-llvm-passes -S -emit-llvm -x ir \
             "$made/module.bc" -o "$made/module.ll" || return 1
     {
@@ -61,7 +64,7 @@ compile() {
 choose_entries() {
     if [ "$machine" = x86_64 ]; then
         entries=target/staticlib/libhindraloha.a
-        echo "library: the archive that rt staticlib wrote, on x86-64"
+        echo "library: the archive that tools/archive wrote, on x86-64"
         return 0
     fi
     entries=$made/entries.o

@@ -2,4 +2,3 @@
 -- rows.
 pub mod Ahead
 pub mod Records
-pub mod Locals

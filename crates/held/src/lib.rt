@@ -1,7 +1,6 @@
 // The late forms of the query. A walk that keeps hold of the pool it reads, so that no edit is possible during it; and a
-// query that fills a lent list of hit records. The borrow checker covers no function over a struct that holds a slice, nor
-// over a slice of structs, so `new`, `next`, `first`, `fill` and `query` are thin and proved by hand; the work is in the
-// others, which are covered.
+// query that fills a lent list of hit records. `new`, `next`, `first`, `fill` and `query` are thin; the work is in the
+// others.
 #![tactic(auto)]
 
 ghost use Rattle.std.specs.Prelude.{◌≡◌, true, cond, suc, ◌+◌, ◌≤◌, length};
@@ -104,7 +103,7 @@ pub fn first(slots: &[u64], root: u64, query: Interval) -> u64
 
 // A hit as a record.
 #[repr(C)]
-#[derive(Drop)]
+#[derive(Clone, Copy)]
 pub struct Hit {
     pub start: u64,
     pub end: u64,

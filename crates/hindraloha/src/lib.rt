@@ -18,14 +18,14 @@ use request::Request;
 
 // A number alone.
 #[repr(C)]
-#[derive(Drop)]
+#[derive(Clone, Copy)]
 pub struct Answer {
     pub number: u64,
 }
 
 // A number, and a count that it comes with.
 #[repr(C)]
-#[derive(Drop)]
+#[derive(Clone, Copy)]
 pub struct Count {
     pub number: u64,
     pub count: u64,
@@ -33,7 +33,7 @@ pub struct Count {
 
 // A number, and the height: -1 on an empty tree.
 #[repr(C)]
-#[derive(Drop)]
+#[derive(Clone, Copy)]
 pub struct Height {
     pub number: u64,
     pub height: i64,
@@ -41,7 +41,7 @@ pub struct Height {
 
 // A number, and the hits of a query.
 #[repr(C)]
-#[derive(Drop)]
+#[derive(Clone, Copy)]
 pub struct Hits {
     pub number: u64,
     pub hits: usize,

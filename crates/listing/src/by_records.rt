@@ -7,7 +7,7 @@ use hindraloha::Hits;
 const ROOM: usize = 800;
 
 // What a query tells: its number, its hits, and one of the records.
-#[derive(Drop)]
+#[derive(Clone, Copy)]
 pub struct Told {
     pub number: u64,
     pub hits: u64,

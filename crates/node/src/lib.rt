@@ -92,7 +92,7 @@ fn max_end(slots: &[u64], s: u64) -> u64
 }
 
 // Where a factor lies, as far as `balance` asks.
-#[derive(Drop)]
+#[derive(Clone, Copy)]
 pub enum Factor {
     BelowMinusOne,
     Between,

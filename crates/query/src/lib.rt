@@ -1,5 +1,7 @@
 // Queries, which all take one way: what is to be walked is found first, nothing where the query is refused, and then
 // walked, by `list` for rows of words and by `held::query` for records.
+#![tactic(auto)]
+
 ghost use Rattle.std.specs.Prelude.{◌≡◌, ℕ, ◌≤◌, length, drop};
 ghost use Rattle.rules.specs.Range as ranges;
 ghost use Rattle.rules.specs.Pool.{Pool, Holds};
@@ -13,7 +15,7 @@ use rules::HEADER_WORDS;
 
 // What is to be walked for a query: the query's number, the word that the slots begin at, the slot of the root, 0 for
 // none, and the range.
-#[derive(Drop)]
+#[derive(Clone, Copy)]
 pub struct Asked {
     pub number: u64,
     pub first: usize,

@@ -18,7 +18,7 @@ const LINK: u64 = 201_168;
 
 // What reading one record finds: what it asks and how many bytes it takes, a kind that is not in the table (14), or no
 // whole record (15).
-#[derive(Drop)]
+#[derive(Clone, Copy)]
 pub enum Reading {
     Whole(Request, usize),
     Unknown,
@@ -26,14 +26,14 @@ pub enum Reading {
 }
 
 // The body of a kind: so many bytes, or the kind is not in the table.
-#[derive(Drop)]
+#[derive(Clone, Copy)]
 pub enum Body {
     Length(usize),
     Unknown,
 }
 
 // What a pair of ends asks.
-#[derive(Drop)]
+#[derive(Clone, Copy)]
 enum Pair {
     Delete,
     Query,

@@ -1,4 +1,6 @@
 // Survey records to a sound pool: one record applied, and a feed of them.
+#![tactic(auto)]
+
 ghost use Rattle.std.specs.Prelude.{◌≡◌, ◌≤◌, length};
 ghost use Rattle.rules.specs.Pool.{Pool, Holds, capacity};
 ghost use Rattle.rules.specs.Record.{whole, kinds, reads};
@@ -14,7 +16,7 @@ use request::{Answer, Request};
 
 // What applying a record did: its number, the bytes taken, and the hits.
 #[repr(C)]
-#[derive(Drop)]
+#[derive(Clone, Copy)]
 pub struct Taken {
     pub number: u64,
     pub taken: usize,
@@ -23,7 +25,7 @@ pub struct Taken {
 
 // What a feed came to: the number it ended with, the records applied and their bytes.
 #[repr(C)]
-#[derive(Drop)]
+#[derive(Clone, Copy)]
 pub struct Records {
     pub number: u64,
     pub records: usize,
@@ -31,7 +33,7 @@ pub struct Records {
 }
 
 // One turn of a feed: a record of so many bytes was applied, or one was refused.
-#[derive(Drop)]
+#[derive(Clone, Copy)]
 enum Turn {
     Applied(usize),
     Refused(u64),

@@ -12,14 +12,14 @@ ghost use Rattle.request.specs.Answers.{number_of};
 use interval::{Included, Interval};
 
 // Whether a range ends before its end or with it.
-#[derive(Drop)]
+#[derive(Clone, Copy)]
 pub enum End {
     Excluded,
     Included,
 }
 
 // What a host or a record asks of the tree.
-#[derive(Drop)]
+#[derive(Clone, Copy)]
 pub enum Request {
     Insert {
         bound: End,
@@ -43,7 +43,7 @@ pub enum Request {
 }
 
 // What a call is answered, by document 01's table of numbers.
-#[derive(Drop)]
+#[derive(Clone, Copy)]
 pub enum Answer {
     Done,
     There,

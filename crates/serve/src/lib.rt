@@ -1,4 +1,6 @@
 // Requests to a sound pool: the edits of the tree with the slots that they take and free.
+#![tactic(auto)]
+
 ghost use Rattle.std.specs.Prelude.{◌≡◌, ◌≤◌, length, take, drop};
 ghost use Rattle.rules.specs.Limits.{header_words};
 ghost use Rattle.rules.specs.Tree.{Tree, levels};

@@ -51,7 +51,7 @@ fn mend_from(slots: &mut [u64], side: Side, k: u64, a: u64, b: u64) -> u64
 
 // How a node stands when its child on a side has one entry more: as high as before, one higher, or with that child too
 // high for the other.
-#[derive(Drop)]
+#[derive(Clone, Copy)]
 pub enum Growth {
     Same,
     Higher,
@@ -114,7 +114,7 @@ pub fn count(slots: &mut [u64], k: u64, end: u64)
 
 // How a node stands when its child on a side has one entry less: as high as before, one lower, or with that child too
 // low for the other.
-#[derive(Drop)]
+#[derive(Clone, Copy)]
 pub enum Loss {
     Same,
     Lower,

@@ -9,7 +9,7 @@ use lib.ListN.{length}
 use Rattle.rules.specs.Pool.{times}
 use Rattle.rules.specs.Stored.{Within, Chained, ends, goes_on}
 use Rattle.rules.proofs.Tests.{eq_cases, le_cases}
-use Rattle.rules.proofs.Times.{times-one, times-apart, times-cons}
+use Rattle.rules.proofs.Times.{times-apart, times-cons}
 use Rattle.node.proofs.Few.{Inside, few}
 
 -- each slot of a chain is one of these words
@@ -36,7 +36,8 @@ all_once c s xs once in_range long low high =
   where
     once_more : times s xs < 1 → (u : ℕ) → times u (s ∷ xs) ≤ 1
     once_more absent u =
-        ⊎_elim (λ y. rw y.0 (omega (arith, times-cons s s xs, times-one s)))
+        ⊎_elim
+        (λ y. let none_yet : times u xs < 1 = rw y.0 absent in rw y.1 (omega (arith, none_yet)))
         (λ n. omega (arith, once u, times-cons u s xs, times-apart u s n.0))
         (eq_cases u s)
 

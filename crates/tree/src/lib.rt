@@ -16,7 +16,7 @@ use balance::Side;
 
 // What a removal did: the slot of the root that is left, with 1 as the high half where the tree is now lower, and the slot
 // of the entry that went. Where nothing went, that is 0.
-#[derive(Drop)]
+#[derive(Clone, Copy)]
 pub struct Removed {
     pub top: u64,
     pub slot: u64,

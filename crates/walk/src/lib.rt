@@ -16,7 +16,7 @@ use node::word;
 use rules::MOST_PENDING;
 
 // After a step: how many nodes are pending, the slot of the latest of them and the slot that was hit, each 0 for none.
-#[derive(Drop)]
+#[derive(Clone, Copy)]
 pub struct After {
     pub pending: usize,
     pub top: u64,

@@ -4,7 +4,6 @@ use mathlib.Core.Path.{refl, sym, ◌∙◌}
 use native.Mathlib.Omega.{arith}
 use lib.ListN.{length}
 use Rattle.rules.specs.Limits.{most_slots}
-use borrow.Author.Tests.{not-true, not-false}
 use Rattle.sound.proofs.Marks.{blank, blank-flags}
 use Rattle.sound.proofs.Whole.{header-lent, lent_room, refused_header, root_ready, live_few}
 use Rattle.sound.proofs.Whole.{refused_tree, decided}
@@ -21,7 +20,7 @@ header-requires c =
 pub returns-then-not-header : goal.returns-then-not-header
 returns-then-not-header c =
     let ws = c.args.words.now in
-    refused_header ws _ c.requires c.slots-slots.ensures (sym c.header.ensures ∙ not-true _ c.if-not-header.true)
+    refused_header ws _ c.requires c.slots-slots.ensures (sym c.header.ensures ∙ c.if-not-header.true)
 
 pub bounds-words-0 : goal.bounds-words-0
 bounds-words-0 c =
@@ -31,13 +30,13 @@ pub tree-requires : goal.tree-requires
 tree-requires c =
     let ws = c.args.words.now in
     root_ready ws _ c.requires c.slots-slots.ensures (blank-flags (most_slots + 1) refl)
-    (sym c.header.ensures ∙ not-false _ c.if-not-header.false)
+    (sym c.header.ensures ∙ c.if-not-header.false)
 
 pub returns-then-not-tree : goal.returns-then-not-tree
 returns-then-not-tree c =
     let ws = c.args.words.now in
     refused_tree ws _ c.requires c.slots-slots.ensures (blank (most_slots + 1)) c.tree.ensures
-    (not-true _ c.if-not-tree.true)
+    c.if-not-tree.true
 
 pub bounds-words-1 : goal.bounds-words-1
 bounds-words-1 c =
@@ -51,20 +50,20 @@ pub overflow_sub-slots : goal.overflow_sub-slots
 overflow_sub-slots c =
     let ws = c.args.words.now in
     live_few ws _ c.requires c.slots-slots.ensures
-    (sym c.header.ensures ∙ not-false _ c.if-not-header.false)
+    (sym c.header.ensures ∙ c.if-not-header.false)
 
 pub chain-requires : goal.chain-requires
 chain-requires c =
     let ws = c.args.words.now in (
       lent_room ws _ c.requires c.slots-slots.ensures,
-      (c.tree.ensures.accepted (not-false _ c.if-not-tree.false)).2.flags,
+      (c.tree.ensures.accepted c.if-not-tree.false).2.flags,
     )
 
 pub returns : goal.returns
 returns c =
     let ws = c.args.words.now in
     decided ws _ c.requires c.slots-slots.ensures (blank (most_slots + 1))
-    (sym c.header.ensures ∙ not-false _ c.if-not-header.false)
+    (sym c.header.ensures ∙ c.if-not-header.false)
     c.tree.ensures
-    (not-false _ c.if-not-tree.false)
+    c.if-not-tree.false
     c.chain.ensures

@@ -3,7 +3,6 @@
 use Prim.Native.Nat.{◌≤◌}
 use mathlib.Core.Path.{◌≡◌, sym, ◌∙◌}
 use native.Mathlib.Omega.{arith}
-use borrow.Author.Tests.{not-true, not-false}
 use Rattle.rules.specs.Stored.{slot_word}
 use Rattle.sound.proofs.Parents.{childless}
 use Rattle.sound.proofs.Verdict.{Passed, passes, judged_none, judged_here, judged_first, judged_second}
@@ -34,20 +33,20 @@ fits_alone-requires c =
     (record { from_one = here.0; inside = c.requires.0.at }, here.1)
 
 pub shape_of-marks-then-not-claim-fits_alone : goal.shape_of-marks-then-not-claim-fits_alone
-shape_of-marks-then-not-claim-fits_alone c = c.claim.auto.0
+shape_of-marks-then-not-claim-fits_alone c = c.claim.auto.marks
 
 pub returns-then-not-claim-fits_alone : goal.returns-then-not-claim-fits_alone
 returns-then-not-claim-fits_alone c =
-    judged_here (alone (goal.at.returns-then-not-claim-fits_alone c).Else-k-eq0).0 c.requires.0 c.claim.ensures.0
-    c.fits_alone.ensures (not-true _ c.if-not-claim-fits_alone.true)
+    judged_here (alone (goal.at.returns-then-not-claim-fits_alone c).Else-k-eq0).0 c.requires.0 c.claim.ensures.was
+    c.fits_alone.ensures c.if-not-claim-fits_alone.true
 
 -- past the second one it passed
 alone-passed : (c : Else-not-claim-fits_alone)
     → let start = c in
     Passed start.args.slots.now start.args.marks.now start.args.k
 alone-passed c =
-    passes c.claim.ensures.0 c.fits_alone.ensures
-    (not-false _ c.if-not-claim-fits_alone.false)
+    passes c.claim.ensures.was c.fits_alone.ensures
+    c.if-not-claim-fits_alone.false
 
 pub in_order-requires-2 : goal.in_order-requires-2
 in_order-requires-2 c =
@@ -55,13 +54,13 @@ in_order-requires-2 c =
     (ready.before_at, ready.at)
 
 pub shape_of-marks-then-not-in_order : goal.shape_of-marks-then-not-in_order
-shape_of-marks-then-not-in_order c = c.claim.auto.0
+shape_of-marks-then-not-in_order c = c.claim.auto.marks
 
 pub returns-then-not-in_order : goal.returns-then-not-in_order
 returns-then-not-in_order c =
     let here = alone (goal.at.returns-then-not-in_order c).Else-k-eq0 in
     judged_first here.0 c.requires.0 (alone-passed (goal.at.returns-then-not-in_order c).Else-not-claim-fits_alone) here.1
-    c.claim.ensures.1 (sym (not-true _ c.if-not-in_order.true) ∙ c.in_order-2.ensures)
+    c.claim.ensures.left (sym c.if-not-in_order.true ∙ c.in_order-2.ensures)
 
 pub in_order-requires-3 : goal.in_order-requires-3
 in_order-requires-3 c =
@@ -69,11 +68,11 @@ in_order-requires-3 c =
     (ready.at, ready.after_at)
 
 pub shape_of-marks : goal.shape_of-marks
-shape_of-marks c = c.claim.auto.0
+shape_of-marks c = c.claim.auto.marks
 
 pub returns : goal.returns
 returns c =
     let here = alone (goal.at.returns c).Else-k-eq0 in
     judged_second here.0 c.requires.0 (alone-passed (goal.at.returns c).Else-not-claim-fits_alone) here.1
-    c.claim.ensures.1 (sym (not-false _ c.if-not-in_order.false) ∙ c.in_order-2.ensures)
+    c.claim.ensures.left (sym c.if-not-in_order.false ∙ c.in_order-2.ensures)
     c.in_order-3.ensures

@@ -10,7 +10,7 @@ fn stop(why: &str) -> ! {
     exit(1)
 }
 
-/// The folder of the archive: that which `HINDRALOHA_LIB_DIR` names, or the one that `rt staticlib` writes to.
+/// The folder of the archive: that which `HINDRALOHA_LIB_DIR` names, or the one that `tools/archive` writes to.
 fn folder() -> PathBuf {
     let beside = Path::new(&var("CARGO_MANIFEST_DIR").unwrap_or_default()).join("../target/staticlib");
     var("HINDRALOHA_LIB_DIR").map_or(beside, PathBuf::from)
@@ -34,7 +34,7 @@ fn main() {
     let archive = folder.join("libhindraloha.a");
     println!("cargo:rerun-if-changed={}", archive.display());
     if !archive.is_file() {
-        stop(&format!("there is no {}; to make it, run in the repository: rt staticlib hindraloha", archive.display()));
+        stop(&format!("there is no {}; to make it, run in the repository: tools/archive", archive.display()));
     }
     println!("cargo:rustc-link-search=native={}", folder.display());
     println!("cargo:rustc-link-lib=static=hindraloha");

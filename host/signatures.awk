@@ -96,5 +96,7 @@ END {
     in_c = FILENAME ~ /\.h$/
     entry = "hindraloha_[a-z_]+[(][^)]*[)]"
     print_entries(all, in_c ? "Hindraloha[A-Za-z]+ " entry ";" : entry " -> [A-Za-z]+")
-    print_structs(all, in_c ? "typedef struct Hindraloha[A-Za-z]+ *[{][^}]*[}]" : "#\\[repr[(]C[)]\\] pub struct [A-Za-z]+ *[{][^}]*[}]")
+    derived = "(#\\[derive[(][^)]*[)]\\] )?"
+    in_rust = "#\\[repr[(]C[)]\\] " derived "pub struct [A-Za-z]+ *[{][^}]*[}]"
+    print_structs(all, in_c ? "typedef struct Hindraloha[A-Za-z]+ *[{][^}]*[}]" : in_rust)
 }

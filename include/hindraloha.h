@@ -1,7 +1,7 @@
 /* hindraloha.h: stretches of track with a value each, kept in memory that the caller lends.
  *
  * An entry takes plain numbers and lent runs of memory, keeps nothing between calls, takes no memory of its own but the
- * stack, and always comes back with a number. `rt staticlib hindraloha` makes the archive, for x86-64.
+ * stack, and always comes back with a number. `tools/archive` makes the archive, for x86-64.
  *
  *     #include "hindraloha.h"
  *     #include <stdio.h>

@@ -11,25 +11,29 @@ link_all_but() {
     done
 }
 
-# Lays out a kit of links to the real one, whose clang also keeps the bitcode that it is given.
+# Lays out a kit of links to the real one, whose clang also keeps the bitcode that it is given: outside the checkout, as
+# `rt ci` refuses links in it. rt takes the folder above its own for the kit, so its two files of Python are copies.
 lay_out_kit() {
     rt=$(readlink -f "$(command -v rt)") || return 1
-    kit=${RATTLE_HOME:-${rt%/bin/rt}}
-    clang=$kit/on/$machine/toolchain/bin/clang
+    kit=${rt%/bin/rt}
+    clang=$kit/toolchain/bin/clang
     [ -x "$clang" ] || return 1
-    tools=on/$machine/toolchain
-    link_all_but "$kit" "$made/kit" on
-    link_all_but "$kit/on/$machine" "$made/kit/on/$machine" toolchain
-    link_all_but "$kit/$tools" "$made/kit/$tools" bin
-    link_all_but "$kit/$tools/bin" "$made/kit/$tools/bin" clang
-    cat >"$made/kit/$tools/bin/clang" <<END
+    links=$(mktemp -d) || return 1
+    link_all_but "$kit" "$links/kit" bin
+    rm "$links/kit/toolchain"
+    link_all_but "$kit/bin" "$links/kit/bin" rt
+    rm "$links/kit/bin/rtlib.py"
+    cp "$rt" "$kit/bin/rtlib.py" "$links/kit/bin/"
+    link_all_but "$kit/toolchain" "$links/kit/toolchain" bin
+    link_all_but "$kit/toolchain/bin" "$links/kit/toolchain/bin" clang
+    cat >"$links/kit/toolchain/bin/clang" <<END
 #!/bin/sh
 for word in "\$@"; do
     case \$word in *.bc) cp "\$word" "$made/module.bc" ;; esac
 done
 exec "$clang" "\$@"
 END
-    chmod +x "$made/kit/$tools/bin/clang"
+    chmod +x "$links/kit/toolchain/bin/clang"
 }
 
 # The lines that say what an LLVM module is for: those of this processor.
@@ -38,30 +42,41 @@ target_lines() {
         grep '^target '
 }
 
+# Proves and compiles the library by that kit.
+keep_bitcode() {
+    links=
+    lay_out_kit && (cd crates/hindraloha_c && "$links/kit/bin/rt" lib) >"$made/library.txt" 2>&1 && [ -s "$made/module.bc" ]
+    status=$?
+    [ -z "$links" ] || rm -rf "$links"
+    return $status
+}
+
 # Proves and compiles the library, keeps its bitcode, and writes it as text for this processor: entries.ll.
 write_entries() {
     rm -rf "$made"
     mkdir -p "$made"
-    lay_out_kit && RATTLE_HOME=$made/kit rt staticlib hindraloha >"$made/staticlib.txt" 2>&1 && [ -s "$made/module.bc" ] &&
-        "$clang" --target=x86_64-unknown-linux-gnu --no-default-config -Xclang -disable-llvm-passes -S -emit-llvm -x ir \
-            "$made/module.bc" -o "$made/module.ll" || return 1
+    keep_bitcode && "$clang" --target=x86_64-unknown-linux-gnu --no-default-config -Xclang -disable-llvm-passes -S \
+        -emit-llvm -x ir "$made/module.bc" -o "$made/module.ll" || return 1
+    cpu='s/"target-cpu"="x86-64[^"]*"//'
+    [ "$machine" != x86_64 ] || cpu=
     {
         target_lines
-        sed -e '/^target /d' -e 's/"target-cpu"="x86-64"//' "$made/module.ll"
+        sed -e '/^target /d' -e "$cpu" "$made/module.ll"
     } >"$made/entries.ll"
 }
 
 # Compiles a module for this processor, as the toolchain compiles the archive.
 compile() {
     "$clang" --target="$machine-unknown-linux-gnu" --no-default-config -O3 -fPIC -ffunction-sections -fdata-sections \
-        -mllvm -trap-unreachable -mllvm -no-trap-after-noreturn -c -x ir "$made/$1.ll" -o "$made/$1.o"
+        -mllvm -trap-unreachable -mllvm -no-trap-after-noreturn -mllvm -disable-machine-licm \
+        -mllvm -disable-postra-machine-licm -mllvm -sink-common-insts=false -c -x ir "$made/$1.ll" -o "$made/$1.o"
 }
 
 # Chooses the code of the entries, and says which.
 choose_entries() {
     if [ "$machine" = x86_64 ]; then
         entries=target/staticlib/libhindraloha.a
-        echo "library: the archive that rt staticlib wrote, on x86-64"
+        echo "library: the archive that tools/archive wrote, on x86-64"
         return 0
     fi
     entries=$made/entries.o

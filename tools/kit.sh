@@ -1,17 +1,21 @@
-# Programs that rt built. They are for x86-64 and run with the kit's own loader and C library; for another processor the
-# kit has an emulator. Scripts read this file in, with the repository's root as the current folder.
+# Programs that rt built, for x86-64. `rt ci` at the top of the repository leaves them in their crates' out/, and so does
+# `rt run` in a crate. Scripts read this file in, with the repository's root as the current folder.
 
-# Runs a program that rt built, by its name. Where a command follows the name, that one is run instead, with the words
-# that run the program behind its own.
-built() {
-    program=target/bin/$1
-    shift
-    [ -x "$program" ] || { echo "there is no $program: run rt check ${program##*/}" >&2 && return 1; }
-    "$@" ${kit_emulator:+"$kit_emulator"} "$kit_tools/lib/ld-linux-x86-64.so.2" --library-path "$kit_tools/lib" "$program"
+# Builds a program, by its name, where it is missing or older than a source of the crates; says so, and shows why where
+# that fails.
+build_program() {
+    program=crates/$1/out/$1
+    [ ! -x "$program" ] || [ -n "$(find crates/*/src -name '*.rt' -newer "$program" | head -n 1)" ] || return 0
+    echo "$1 is not built, or its sources are newer: rt run proves and builds it" >&2
+    mkdir -p target
+    (cd "crates/$1" && rt run </dev/null) >"target/$1.log" 2>&1 || { tail -n 20 "target/$1.log" >&2 && return 1; }
 }
 
-# The kit is the folder above the one of its first guide.
-kit_guide=$(rt doc) || { echo "rt is not on the path" >&2 && exit 1; }
-kit_tools=${kit_guide%/*/*}/on/$(uname -m)/toolchain
-kit_emulator=$kit_tools/bin/qemu-x86_64
-[ -x "$kit_emulator" ] || kit_emulator=
+# Runs a program that rt built, by its name. Where a command follows the name, that one is run instead, with the program
+# as its last word.
+built() {
+    program=crates/$1/out/$1
+    shift
+    [ -x "$program" ] || { echo "there is no $program" >&2 && return 1; }
+    "$@" "$program"
+}

@@ -7,9 +7,9 @@ c_out=target/x86_64
 
 # Makes the archive where it is missing or older than a source of the crates; where that fails, shows why.
 make_archive() {
-    [ ! -f "$archive" ] || [ -n "$(find crates -name '*.rt' -newer "$archive" | head -n 1)" ] || return 0
+    [ ! -f "$archive" ] || [ -n "$(find crates/*/src -name '*.rt' -newer "$archive" | head -n 1)" ] || return 0
     mkdir -p "$c_out"
-    rt staticlib hindraloha >"$c_out/staticlib.log" 2>&1 || { tail -n 20 "$c_out/staticlib.log" >&2 && return 1; }
+    tools/archive >"$c_out/archive.log" 2>&1 || { tail -n 20 "$c_out/archive.log" >&2 && return 1; }
 }
 
 # Runs the C compiler that was found.
@@ -30,10 +30,9 @@ works() {
         [ "$(run_program "$c_out/works" 2>>"$c_out/works.log")" = works ]
 }
 
-# Finds an emulator: the kit's, which is the folder above the one of its first guide, another one, or Debian's.
+# Finds an emulator: one that is installed, or Debian's.
 find_emulator() {
-    guide=$(rt doc 2>/dev/null)
-    for emulator in "${guide%/*/*}/on/$(uname -m)/toolchain/bin/qemu-x86_64" qemu-x86_64 qemu-x86_64-static; do
+    for emulator in qemu-x86_64 qemu-x86_64-static; do
         ! command -v "$emulator" >/dev/null 2>&1 || return 0
     done
     emulator=$c_out/qemu/usr/bin/qemu-x86_64-static

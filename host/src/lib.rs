@@ -21,7 +21,7 @@
 //!
 //! # Linking
 //!
-//! `rt staticlib hindraloha`, run in the repository, makes the archive that `build.rs` links; it is for x86-64. Another
+//! `tools/archive`, run in the repository, makes the archive that `build.rs` links; it is for x86-64. Another
 //! folder than `target/staticlib` is named by `HINDRALOHA_LIB_DIR`.
 //!
 //! On another kind of machine only the tests of this crate can be run, with `cargo test --offline --features stand-in`:

@@ -11,8 +11,7 @@ use held::Hit;
 
 // Counts the ranges that the one from `start` to `end` overlaps, and writes the records of as many as fit. Taken apart,
 // the records are the rows of `hindraloha_query`.
-#[unsafe(no_mangle)]
-pub extern "C" fn hindraloha_query_records(
+pub fn hindraloha_query_records(
     pool: &[u64],
     start: u64,
     end: u64,

@@ -1,5 +1,5 @@
 // The entries that a host calls, with plain numbers and lent memory. Each has a contract that is one equation with
-// document 01's entry, for every input: `rules/specs/Entries.antt`.
+// document 01's entry, for every input: `rules/specs/Entries.antt`. The crate `hindraloha_c` exports them to C.
 #![tactic(auto)]
 
 pub mod by_records; // the query that fills a lent list of hit records
@@ -61,8 +61,7 @@ fn edit(pool: &mut [u64], request: Request) -> Answer
 }
 
 // Formats a pool, whatever it held: all slots free.
-#[unsafe(no_mangle)]
-pub extern "C" fn hindraloha_format(pool: &mut [u64]) -> Answer
+pub fn hindraloha_format(pool: &mut [u64]) -> Answer
     ensures { edited result pool.new ≡ format pool.old }
 {
     if pool::is_right_length(pool.len()) {
@@ -77,8 +76,7 @@ pub extern "C" fn hindraloha_format(pool: &mut [u64]) -> Answer
 }
 
 // Whether the pool is sound.
-#[unsafe(no_mangle)]
-pub extern "C" fn hindraloha_check(pool: &[u64]) -> Answer
+pub fn hindraloha_check(pool: &[u64]) -> Answer
     ensures { result.number ≡ check pool.now }
 {
     Answer {
@@ -87,14 +85,7 @@ pub extern "C" fn hindraloha_check(pool: &[u64]) -> Answer
 }
 
 // Puts the range from `start` to `end` with its value into the pool.
-#[unsafe(no_mangle)]
-pub extern "C" fn hindraloha_insert(
-    pool: &mut [u64],
-    start: u64,
-    end: u64,
-    included: u8,
-    value: u64,
-) -> Answer
+pub fn hindraloha_insert(pool: &mut [u64], start: u64, end: u64, included: u8, value: u64) -> Answer
     ensures { edited result pool.new ≡ edit (inserting (end_of_flag included) start end value) pool.old }
 {
     let bound = guard::bound(included);
@@ -110,8 +101,7 @@ pub extern "C" fn hindraloha_insert(
 }
 
 // Takes the range from `start` to `end` out of the pool.
-#[unsafe(no_mangle)]
-pub extern "C" fn hindraloha_delete(pool: &mut [u64], start: u64, end: u64, included: u8) -> Answer
+pub fn hindraloha_delete(pool: &mut [u64], start: u64, end: u64, included: u8) -> Answer
     ensures { edited result pool.new ≡ edit (deleting (end_of_flag included) start end) pool.old }
 {
     let bound = guard::bound(included);
@@ -119,32 +109,28 @@ pub extern "C" fn hindraloha_delete(pool: &mut [u64], start: u64, end: u64, incl
 }
 
 // Takes the first range in order out of the pool.
-#[unsafe(no_mangle)]
-pub extern "C" fn hindraloha_delete_min(pool: &mut [u64]) -> Answer
+pub fn hindraloha_delete_min(pool: &mut [u64]) -> Answer
     ensures { edited result pool.new ≡ edit (deleting_end left) pool.old }
 {
     edit(pool, Request::DeleteMin)
 }
 
 // Takes the last range in order out of the pool.
-#[unsafe(no_mangle)]
-pub extern "C" fn hindraloha_delete_max(pool: &mut [u64]) -> Answer
+pub fn hindraloha_delete_max(pool: &mut [u64]) -> Answer
     ensures { edited result pool.new ≡ edit (deleting_end right) pool.old }
 {
     edit(pool, Request::DeleteMax)
 }
 
 // Takes all ranges out of a sound pool.
-#[unsafe(no_mangle)]
-pub extern "C" fn hindraloha_clear(pool: &mut [u64]) -> Answer
+pub fn hindraloha_clear(pool: &mut [u64]) -> Answer
     ensures { edited result pool.new ≡ edit clearing pool.old }
 {
     edit(pool, Request::Clear)
 }
 
 // How many ranges the pool holds.
-#[unsafe(no_mangle)]
-pub extern "C" fn hindraloha_size(pool: &[u64]) -> Count
+pub fn hindraloha_size(pool: &[u64]) -> Count
     ensures { told result ≡ size_of pool.now }
 {
     let number = guard::check(pool);
@@ -158,8 +144,7 @@ pub extern "C" fn hindraloha_size(pool: &[u64]) -> Count
 }
 
 // Whether the pool holds no range: 1 for yes.
-#[unsafe(no_mangle)]
-pub extern "C" fn hindraloha_is_empty(pool: &[u64]) -> Count
+pub fn hindraloha_is_empty(pool: &[u64]) -> Count
     ensures { told result ≡ is_empty pool.now }
 {
     let number = guard::check(pool);
@@ -173,8 +158,7 @@ pub extern "C" fn hindraloha_is_empty(pool: &[u64]) -> Count
 }
 
 // The height of the tree.
-#[unsafe(no_mangle)]
-pub extern "C" fn hindraloha_height(pool: &[u64]) -> Height
+pub fn hindraloha_height(pool: &[u64]) -> Height
     ensures { told_height result ≡ height_of pool.now }
 {
     let number = guard::check(pool);
@@ -193,14 +177,7 @@ pub extern "C" fn hindraloha_height(pool: &[u64]) -> Height
 }
 
 // Counts the ranges that the one from `start` to `end` overlaps, and writes start, end and value of as many as fit.
-#[unsafe(no_mangle)]
-pub extern "C" fn hindraloha_query(
-    pool: &[u64],
-    start: u64,
-    end: u64,
-    included: u8,
-    rows: &mut [u64],
-) -> Hits
+pub fn hindraloha_query(pool: &[u64], start: u64, end: u64, included: u8, rows: &mut [u64]) -> Hits
     ensures { queried result rows.new ≡ query (end_of_flag included) start end pool.now rows.old }
 {
     let asked = guard::ask(pool, start, end, included);
@@ -212,8 +189,7 @@ pub extern "C" fn hindraloha_query(
 }
 
 // Applies the record at the front of the bytes. Only a query writes to the lent run of rows.
-#[unsafe(no_mangle)]
-pub extern "C" fn hindraloha_apply(pool: &mut [u64], bytes: &[u8], rows: &mut [u64]) -> Taken
+pub fn hindraloha_apply(pool: &mut [u64], bytes: &[u8], rows: &mut [u64]) -> Taken
     ensures { applied_of result pool.new rows.new ≡ apply bytes.now pool.old rows.old }
 {
     let number = guard::check(pool);
@@ -228,8 +204,7 @@ pub extern "C" fn hindraloha_apply(pool: &mut [u64], bytes: &[u8], rows: &mut [u
 }
 
 // Applies records until the bytes end or one is refused.
-#[unsafe(no_mangle)]
-pub extern "C" fn hindraloha_feed(pool: &mut [u64], bytes: &[u8]) -> Records
+pub fn hindraloha_feed(pool: &mut [u64], bytes: &[u8]) -> Records
     ensures { fed_of result pool.new ≡ feed bytes.now pool.old }
 {
     let number = guard::check(pool);

@@ -1,9 +1,12 @@
 // Reads survey records from standard input into a fresh pool of 800 slots, and writes what each came to.
-ghost use Rattle.std.specs.Prelude.{◌≡◌, ◌*◌, ◌≤◌, length};
+#![tactic(auto)]
+
+ghost use Rattle.std.specs.Prelude.{◌≡◌, ◌*◌, ◌≤◌, length, IfOk};
 ghost use Rattle.survey.specs.Ready.{Ready};
 
-use libc::{STDIN_FILENO, STDOUT_FILENO};
 use reading::Body;
+use std::io;
+use std::io::Read;
 
 // The words of a pool of 800 slots.
 const POOL_WORDS: usize = 4804;
@@ -24,64 +27,61 @@ fn body_length(kind: u8) -> usize
     }
 }
 
+// Reads until `bytes` is full or the input ends, and answers how many there are at the front.
+fn read_full(input: &mut impl Read, bytes: &mut [u8]) -> io::Result<usize>
+    ensures { IfOk result (λ n. n ≤ length bytes.new) }
+{
+    let mut done = 0;
+    while done < bytes.len() {
+        let n = input.read(&mut bytes[done..])?;
+        if n == 0 {
+            return Ok(done);
+        }
+        done += n;
+    }
+    Ok(done)
+}
+
 // Reads the next record to the front of `bytes`, and answers how many there are: none at the end of the input, and
 // fewer than the kind asks where the input ends inside the record.
-fn read_record(bytes: &mut [u8]) -> usize
+fn read_record(input: &mut impl Read, bytes: &mut [u8]) -> io::Result<usize>
     requires { length bytes.old ≡ 25 }
-    ensures { result ≤ 25 }
+    ensures { IfOk result (λ n. n ≤ 25) }
 {
-    if io::read_full(STDIN_FILENO, &mut bytes[..1]) == 0 {
-        return 0;
+    if read_full(input, &mut bytes[..1])? == 0 {
+        return Ok(0);
     }
     let n = body_length(bytes[0]);
-    let got = io::read_full(STDIN_FILENO, &mut bytes[1..1 + n]);
-    1 + got
+    let got = read_full(input, &mut bytes[1..1 + n])?;
+    Ok(1 + got)
 }
 
 // Writes the line of a record that was no query, or of one that was refused.
-fn write_answer(number: u64) {
+fn write_answer(rt: &impl Print, number: u64) -> io::Result<()> {
     match number {
-        0 => {
-            io::write_all(STDOUT_FILENO, b"done\n");
-        }
-        1 => {
-            io::write_all(STDOUT_FILENO, b"kept\n");
-        }
-        2 => {
-            io::write_all(STDOUT_FILENO, b"none\n");
-        }
-        _ => {
-            io::write_all(STDOUT_FILENO, b"no ");
-            io::print_decimal(STDOUT_FILENO, number);
-            io::write_all(STDOUT_FILENO, b"\n");
-        }
+        0 => println!(rt; "done"),
+        1 => println!(rt; "kept"),
+        2 => println!(rt; "none"),
+        _ => println!(rt; "no {number}"),
     }
 }
 
 // Writes the line of one hit.
-fn write_hit(start: u64, end: u64, value: u64) {
-    io::write_all(STDOUT_FILENO, b"hit ");
-    io::print_decimal(STDOUT_FILENO, start);
-    io::write_all(STDOUT_FILENO, b" ");
-    io::print_decimal(STDOUT_FILENO, end);
-    io::write_all(STDOUT_FILENO, b" ");
-    io::print_decimal(STDOUT_FILENO, value);
-    io::write_all(STDOUT_FILENO, b"\n");
+fn write_hit(rt: &impl Print, start: u64, end: u64, value: u64) -> io::Result<()> {
+    println!(rt; "hit {start} {end} {value}")
 }
 
 // Writes the lines of a query: each hit, then their count.
-fn write_hits(rows: &[u64], hits: usize)
+fn write_hits(rt: &impl Print, rows: &[u64], hits: usize) -> io::Result<()>
     requires { 3 * hits ≤ length rows.now }
 {
     let mut i = 0;
     while i < hits {
         let at = 3 * i;
-        write_hit(rows[at], rows[at + 1], rows[at + 2]);
+        write_hit(rt, rows[at], rows[at + 1], rows[at + 2])?;
         i += 1;
     }
-    io::write_all(STDOUT_FILENO, b"end ");
-    io::print_decimal(STDOUT_FILENO, hits as u64);
-    io::write_all(STDOUT_FILENO, b"\n");
+    println!(rt; "end {hits}")
 }
 
 // Whether the record at the front of the bytes is a query.
@@ -90,7 +90,12 @@ fn is_query(bytes: &[u8]) -> bool {
 }
 
 // Applies one record and writes its lines. Answers the record's number.
-fn serve_record(words: &mut [u64], bytes: &[u8], rows: &mut [u64]) -> u64
+fn serve_record(
+    rt: &impl Print,
+    words: &mut [u64],
+    bytes: &[u8],
+    rows: &mut [u64],
+) -> io::Result<u64>
     requires { Ready words.old × (length rows.old ≡ 2400) }
     ensures { Ready words.new }
 {
@@ -98,43 +103,44 @@ fn serve_record(words: &mut [u64], bytes: &[u8], rows: &mut [u64]) -> u64
     let number = applied.number;
     let hits = applied.hits;
     if number == 0 && is_query(bytes) {
-        write_hits(rows, hits);
+        write_hits(rt, rows, hits)?;
     } else {
-        write_answer(number);
+        write_answer(rt, number)?;
     }
-    number
+    Ok(number)
 }
 
 // One record: reads it, applies it and writes its lines. Answers whether to go on: not after the end of the input, and
 // not after 14 or 15, which leave no place where the next record begins.
-fn turn(words: &mut [u64]) -> bool
+fn turn(rt: &impl Print, input: &mut impl Read, words: &mut [u64]) -> io::Result<bool>
     requires { Ready words.old }
     ensures { Ready words.new }
 {
     let mut bytes = [0u8; RECORD_BYTES];
-    let n = read_record(&mut bytes);
+    let n = read_record(input, &mut bytes)?;
     if n == 0 {
-        return false;
+        return Ok(false);
     }
     let mut rows = [0u64; ROW_WORDS];
-    let number = serve_record(words, &bytes[..n], &mut rows);
-    number != 14 && number != 15
+    let number = serve_record(rt, words, &bytes[..n], &mut rows)?;
+    Ok(number != 14 && number != 15)
 }
 
 // Formats the pool, then takes records while there are any. A proved loop has to end, and nothing says that the input
 // does: so the turns are counted down, from a number that no run uses up.
-fn survey(words: &mut [u64])
+fn survey(rt: &impl Print, input: &mut impl Read, words: &mut [u64]) -> io::Result<()>
     requires { length words.old ≡ 4804 }
 {
     pool::format(words);
     let mut turns = u64::MAX;
-    while turns > 0 && turn(words) {
+    while turns > 0 && turn(rt, input, words)? {
         turns -= 1;
     }
+    Ok(())
 }
 
 // The pool of 800 slots, and what the records make of it.
-fn main() {
+fn main(rt: HostRuntime) -> io::Result<()> {
     let mut words = [0u64; POOL_WORDS];
-    survey(&mut words);
+    survey(&rt, &mut rt.stdin(), &mut words)
 }

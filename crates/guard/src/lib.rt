@@ -1,5 +1,7 @@
 // What an entry looks at before anything else: whether the pool is to be refused, how the host said that an end is
 // included, and what is to be walked for a query.
+#![tactic(auto)]
+
 ghost use Rattle.std.specs.Prelude.{◌≡◌};
 ghost use Rattle.rules.specs.Entries.{check};
 ghost use Rattle.request.specs.Requests.{end_of};

@@ -20,7 +20,7 @@ use rules::MOST_PENDING;
 
 // The pending nodes' slots, the latest last, how many they are, the slot of the latest and the slot that the latest step
 // hit, each 0 for none.
-#[derive(Drop)]
+#[derive(Clone, Copy)]
 pub struct Stack {
     pub nodes: [u64; MOST_PENDING],
     pub pending: usize,
@@ -29,7 +29,7 @@ pub struct Stack {
 }
 
 // A walk: the slots that it reads, what is asked, and where it stands.
-#[derive(Drop)]
+#[derive(Clone, Copy)]
 pub struct Walk<'a> {
     pub slots: &'a [u64],
     pub query: Interval,
@@ -113,7 +113,7 @@ pub struct Hit {
 // A query on its way: how many nodes are pending and the slot of the latest, 0 for none, the latest hit's record and
 // whether there is one, how many hits came before it, how many records there is room for, and whether the latest is to be
 // written.
-#[derive(Drop)]
+#[derive(Clone, Copy)]
 struct Filling {
     pub pending: usize,
     pub top: u64,
@@ -171,7 +171,7 @@ fn seek(
 }
 
 // A query's stack and its first hit.
-#[derive(Drop)]
+#[derive(Clone, Copy)]
 struct Begun {
     pub nodes: [u64; MOST_PENDING],
     pub first: Filling,

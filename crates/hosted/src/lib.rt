@@ -4,6 +4,8 @@
 // left out, is refused here, and so is an entry whose code and contract are changed together. hindraloha_check, _size,
 // _height and _is_empty are lent the pool to read only, and name no rows: they leave all words by their type, so that they
 // are no events and have no function here.
+#![tactic(auto)]
+
 pub mod by_records; // the query that fills a lent list of hit records
 
 ghost use Rattle.std.specs.Prelude.{◌≡◌};

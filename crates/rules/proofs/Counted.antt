@@ -1,13 +1,13 @@
 -- One entry more, or one less: what that does to size and max, whatever the order of the tree and whether or not it is
 -- balanced. Assumes nothing.
 use Prim.Native.Nat.{ℕ, suc, ◌+◌, max}
-use mathlib.Core.List.{List, [], ◌∷◌, ◌++◌}
+use mathlib.Core.List.{List}
 use mathlib.Core.Option.{Option, none, some}
 use mathlib.Core.Path.{◌≡◌, refl, sym, ap, ◌∙◌}
 use native.Mathlib.Omega.{arith}
 use lib.ListN.{length, length-append}
-use Rattle.rules.specs.Range.{Range, order}
-use Rattle.rules.specs.Tree.{Entry, Tree, leaf, node, size, max_end, entries}
+use Rattle.rules.specs.Range.{Range}
+use Rattle.rules.specs.Tree.{Entry, Tree, node, size, max_end, entries}
 use Rattle.rules.specs.Balance.{Side, left, right, join, balanced_join}
 use Rattle.rules.specs.Edit.{find, insert, outermost, shed, close, delete}
 use Rattle.rules.proofs.Ways.{Down, no_tree, at_root, to_left, to_right, down}

@@ -17,7 +17,7 @@ use Rattle.rules.proofs.Times.{times-node, times-apart, times-most-once}
 use Rattle.rules.proofs.Ways.{Down, no_tree, to_left, to_right, down}
 use Rattle.rules.proofs.Ways as ways
 use Rattle.node.specs.Node.{levels_at, Slot}
-use Rattle.node.proofs.Trees.{at-node, at_root}
+use Rattle.node.proofs.Trees.{at-node}
 use Rattle.settle.proofs.Settled.{settles_moved}
 use Rattle.balance.proofs.Sides.{times_sides}
 use Rattle.tree.specs.Edits.{Inserting, Inserts}

@@ -20,21 +20,20 @@ both-in : (c : Else-words-l)
 both-in c = within-words c.if-words-l.false
 
 pub fits_one-requires : goal.fits_one-requires
-fits_one-requires c =
-    (
-      c.requires.0,
-      record {
-        from_one =
-            omega (
-              arith,
-              c.requires.1,
-              c.left-l.ensures,
-              c.right-r.ensures.0,
-              c.if-l-eq0.true,
-            );
-        inside = (both-in (goal.at.fits_one-requires c).Else-words-l).1;
-      },
-    )
+fits_one-requires c = (
+  c.requires.0,
+  record {
+    from_one =
+        omega (
+          arith,
+          c.requires.1,
+          c.left-l.ensures,
+          c.right-r.ensures.0,
+          c.if-l-eq0.true,
+        );
+    inside = (both-in (goal.at.fits_one-requires c).Else-words-l).1;
+  },
+)
 
 pub returns-then-l-eq0 : goal.returns-then-l-eq0
 returns-then-l-eq0 c =

@@ -31,11 +31,10 @@ loop-pending-smaller c =
     walk_less (c.loop-pending.invariant.1 pre.0 pre.1) c.next-after.ensures c.loop-pending-test.true
 
 pub loop-pending-preserved : goal.loop-pending-preserved
-loop-pending-preserved c =
-    (
-      c.count_hit-count.auto.rows ∙ c.loop-pending.invariant.0,
-      λ t h. walk_on (c.loop-pending.invariant.1 t h) c.next-after.ensures c.count_hit-count.ensures,
-    )
+loop-pending-preserved c = (
+  c.count_hit-count.auto.rows ∙ c.loop-pending.invariant.0,
+  λ t h. walk_on (c.loop-pending.invariant.1 t h) c.next-after.ensures c.count_hit-count.ensures,
+)
 
 pub returns : goal.returns
 returns c t h = walk_over (c.loop-pending.invariant.1 t h) (omega arith)

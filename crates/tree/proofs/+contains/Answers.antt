@@ -3,7 +3,6 @@ use Prim.Native.Nat.{ℕ}
 use mathlib.Core.Path.{refl, sym, ◌∙◌}
 use Rattle.rules.specs.Range.{Range, range}
 use Rattle.rules.specs.Balance.{Side}
-use Rattle.node.specs.Node.{levels_at}
 use Rattle.balance.specs.Sides.{side_of}
 use Rattle.balance.proofs.Rotated.{far_child}
 use Rattle.tree.proofs.Hanging.{at_slot, same-told, way-told, Turn}

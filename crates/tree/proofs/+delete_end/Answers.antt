@@ -4,7 +4,6 @@ use Prim.Native.Nat.{ℕ}
 use native.Mathlib.Omega.{arith}
 use mathlib.Core.Path.{◌≡◌, refl}
 use Rattle.rules.specs.Balance.{Side}
-use Rattle.node.specs.Node.{levels_at}
 use Rattle.balance.specs.Sides.{side_of}
 use Rattle.balance.proofs.Sides.{far-from-other}
 use Rattle.balance.proofs.Rotated.{near_child, far_child}

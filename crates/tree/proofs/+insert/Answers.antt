@@ -5,7 +5,7 @@ use native.Mathlib.Omega.{arith}
 use mathlib.Core.Path.{refl, sym, ◌∙◌}
 use Rattle.rules.specs.Tree.{Entry}
 use Rattle.rules.specs.Balance.{Side}
-use Rattle.node.specs.Node.{levels_at, entry}
+use Rattle.node.specs.Node.{entry}
 use Rattle.balance.specs.Sides.{side_of}
 use Rattle.balance.proofs.Rotated.{far_child}
 use Rattle.tree.proofs.Hanging.{at_slot, same-told, way-told, Turn}

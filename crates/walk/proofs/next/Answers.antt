@@ -1,10 +1,6 @@
 -- `next` steps until one hits or nothing is pending. Assumes nothing.
 use native.Mathlib.Omega.{arith}
-use lib.ListN.{take}
-use Rattle.interval.specs.Interval.{range_of}
-use Rattle.rules.specs.Steps.{Pending}
-use Rattle.walk.specs.Walk.{Stands}
-use Rattle.walk.proofs.Seeking.{entries_at, Seeks, seek_start, seek_over, seek_on, seek_hit, seek_less}
+use Rattle.walk.proofs.Seeking.{seek_start, seek_over, seek_on, seek_hit, seek_less}
 use Rattle.walk.proofs.next.Goals as goal
 
 pub loop-left-init : goal.loop-left-init

@@ -8,7 +8,7 @@ use Rattle.rules.specs.Stored.{Within}
 use Rattle.interval.specs.Interval.{range_of}
 use Rattle.walk.specs.Walk.{Stands}
 use Rattle.walk.specs.Inside.{Leads}
-use Rattle.walk.proofs.Looking.{take-latest, within, Read, passed, skipped, seen}
+use Rattle.walk.proofs.Looking.{take-latest, within, passed, skipped, seen}
 use Rattle.walk.proofs.Taking.{nothing}
 use Rattle.walk.proofs.step.Goals as goal
 use Rattle.walk.proofs.step.Goals.{Else-pending-eq0, Then-max-query, Then-query-start, After-hit_at-hit}

@@ -1,11 +1,11 @@
 -- What size, height and `is_empty` tell of a sound pool, from its header and its root. Assumes nothing.
-use Prim.Native.Nat.{ℕ, ◌%◌, ◌≤◌, max}
+use Prim.Native.Nat.{ℕ, ◌%◌, max}
 use mathlib.Core.Bool.{Bool, true, cond}
 use mathlib.Core.List.{List}
 use mathlib.Core.Path.{◌≡◌, refl, sym, ap, ◌∙◌}
 use lib.Dec.{eqb}
 use lib.IntN.{ℤ, pos, negsuc}
-use lib.ListN.{length, get_or, drop}
+use lib.ListN.{get_or, drop}
 use borrow.Author.Tests.{eq-eqb, ne_eqb}
 use native.Mathlib.Omega.{arith}
 use Rattle.rules.specs.Limits.{header_words, half}
@@ -15,7 +15,6 @@ use Rattle.rules.specs.Request.{is_refusal}
 use Rattle.rules.specs.Entries.{Told, check, size_of, height_of, is_empty}
 use Rattle.rules.specs.Stored.{slot_word, Within, Rooted}
 use Rattle.rules.proofs.Stored.{holds_laid, holds-rooted}
-use Rattle.rules.proofs.Lengths.{roomy}
 use Rattle.rules.proofs.Reading.{low_half}
 use Rattle.node.proofs.Trees.{at-node, at_root}
 use Rattle.guard.proofs.Guarded.{refused_whole, answered}

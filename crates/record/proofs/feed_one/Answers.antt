@@ -1,6 +1,5 @@
 -- `feed_one` is one turn of the rules' feed. Assumes nothing.
-use Prim.Native.Nat.{ℕ, ◌+◌, ◌≤◌}
-use mathlib.Core.List.{List}
+use Prim.Native.Nat.{◌+◌, ◌≤◌}
 use mathlib.Core.Option.{some}
 use mathlib.Core.Path.{◌≡◌, refl, sym, ◌∙◌}
 use lib.ListN.{length, get_or}
@@ -27,12 +26,11 @@ whole_read m there =
 
 pub returns-then-body-n : goal.returns-then-body-n
 returns-then-body-n c p h there =
-    let fed = c.args.bytes.now in
-    (
+    let fed = c.args.bytes.now in (
       refl,
       rw c.number_of-then-body-n.ensures
-      (ends_cut_short (serve _) fed p there
-      (cut_in_feed fed c.in-Length.n there (fixed (goal.at.returns-then-body-n c).In-Length) c.if-body-n.true)),
+          (ends_cut_short (serve _) fed p there
+          (cut_in_feed fed c.in-Length.n there (fixed (goal.at.returns-then-body-n c).In-Length) c.if-body-n.true)),
     )
 
 pub means-requires : goal.means-requires

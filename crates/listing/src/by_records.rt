@@ -1,5 +1,4 @@
-// A query by records: the entry fills a lent list of them. The borrow checker covers no function that lends such a list,
-// so `ask` only lends it and is proved by hand; the list is made and read by functions that are covered.
+// A query by records: the entry fills a lent list of them. `ask` lends it; other functions make it and read it.
 use held::Hit;
 use hindraloha::Hits;
 

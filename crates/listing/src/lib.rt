@@ -1,5 +1,7 @@
 // The recorded list of the oracle, run through the entries line by line: every answer, size, height, row and shape is
 // compared. compare/recorded/README.md has the list's format.
+#![tactic(auto)]
+
 mod by_records;
 mod edits;
 mod queries;

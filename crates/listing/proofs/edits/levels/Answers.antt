@@ -11,9 +11,7 @@ use mir.Syntax.{w64}
 use mir.Val.{to_z, of_z}
 use mir.ValLaws.{to_z_pos}
 use Rattle.rules.proofs.Tests.{lt_cases}
-use borrow.Author.Rules.{rules}
-use Rattle.listing.proofs.edits.levels.Statement.{statement}
-use Rattle.listing.proofs.edits.levels.Tie as tie
+use Rattle.listing.proofs.edits.levels.Goals as goal
 
 -- the bits of a number that is not below 0 stand for themselves
 not-below : (n : ℕ) → lt_z (to_z w64 n) (pos 0) ≡ false → T (non_neg (to_z w64 n)) × (nat_abs (to_z w64 n) < 2 ^ 63)
@@ -23,25 +21,12 @@ not-below n is =
     (λ t. let z : ◌≡◌ {A = ℕ} 0 1 = cc (rw t.1 at is) in absurd (omega arith))
     (lt_cases n (2 ^ 63))
 
-hindraloha-height-requires : tie.Need-hindraloha-height-requires
-hindraloha-height-requires c κs = search rules
-
-cast-result : tie.Need-overflow-cast-result
-cast-result c =
-    let h = not-below (of_z w64 c.before.before.hindraloha-height.result.height) c.if1.false in
+pub overflow_cast-result : goal.overflow_cast-result
+overflow_cast-result c =
+    let h = not-below (of_z w64 c.hindraloha_height-told.result.height) c.if-height-lt0.false in
     (h.0, record { fits = omega arith })
 
-add-result : tie.Need-overflow-add-result
-add-result c =
-    let h = not-below (of_z w64 c.before.before.hindraloha-height.result.height) c.if1.false in
+pub overflow_add-result : goal.overflow_add-result
+overflow_add-result c =
+    let h = not-below (of_z w64 c.hindraloha_height-told.result.height) c.if-height-lt0.false in
     record { fits = omega arith }
-
-returns : tie.Need-returns
-returns c = search rules
-
-returns-2 : tie.Need-returns-2
-returns-2 c = search rules
-
-pub levels-spec : {M : Type 1} → statement M
-levels-spec =
-    tie.close (tie.spec hindraloha-height-requires cast-result add-result returns returns-2)

@@ -1,5 +1,4 @@
-// The query that fills a lent list of hit records. The borrow checker covers no function over a slice of structs, so the
-// entry only calls and is proved by hand; what is to be walked is found by functions that are covered.
+// The query that fills a lent list of hit records. The entry only calls: what is to be walked is found by other functions.
 ghost use Rattle.std.specs.Prelude.{◌≡◌};
 ghost use Rattle.rules.specs.Entries.{query};
 ghost use Rattle.held.specs.Records.{words_of};

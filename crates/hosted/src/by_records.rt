@@ -1,5 +1,4 @@
-// The query that fills a lent list of hit records, as a host calls it. The borrow checker covers no function over a slice
-// of structs, so it is proved by hand.
+// The query that fills a lent list of hit records, as a host calls it.
 ghost use Rattle.std.specs.Prelude.{◌≡◌};
 ghost use Rattle.rules.specs.Request.{querying};
 ghost use Rattle.rules.specs.Entries.{query};

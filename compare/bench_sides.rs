@@ -25,13 +25,6 @@ struct Records {
 /// The words of a row, and of a record that holds one.
 const ROW_WORDS: usize = 3;
 
-/// A lent run as the functions behind the entries take it: where it is and how long.
-#[repr(C)]
-struct Run {
-    at: *const u64,
-    len: usize,
-}
-
 // `Records` comes back through a pointer before the other arguments, as the C calling rules of x86-64 have it; code
 // compiled from the bitcode for another processor takes it in the same place.
 extern "C" {
@@ -65,15 +58,31 @@ extern "C" {
         rows: *mut u64,
         room: usize,
     ) -> *mut Records;
-    fn bench_walk(slots: *const Run, root: u64, query: *const Ends, rows: *const Run) -> usize;
-    fn bench_records(slots: *const Run, root: u64, query: *const Ends, rows: *const Run) -> usize;
+    fn bench_walk(
+        slots: *const u64,
+        len: usize,
+        root: u64,
+        start: u64,
+        end: u64,
+        rows: *mut u64,
+        room: usize,
+    ) -> usize;
+    fn bench_records(
+        slots: *const u64,
+        len: usize,
+        root: u64,
+        start: u64,
+        end: u64,
+        rows: *mut u64,
+        room: usize,
+    ) -> usize;
 }
 
 /// One form of a query's entry.
 type Entry = unsafe extern "C" fn(*const u64, usize, u64, u64, u8, *mut u64, usize) -> Hits;
 
-/// One form of a query behind its entry.
-type Behind = unsafe extern "C" fn(*const Run, u64, *const Ends, *const Run) -> usize;
+/// One form of a query behind its entry: its range is handed on as two numbers.
+type Behind = unsafe extern "C" fn(*const u64, usize, u64, u64, u64, *mut u64, usize) -> usize;
 
 /// Formats a pool.
 #[no_mangle]
@@ -133,9 +142,10 @@ fn entered(entry: Entry, unit: usize, pool: &[u64], queries: &[Ends], rows: &mut
 /// Queries behind an entry, where room is counted in so many words: the hits of all.
 #[inline(always)]
 fn walked(query: Behind, unit: usize, pool: &[u64], queries: &[Ends], rows: &mut [u64]) -> usize {
-    let slots = Run { at: pool[4..].as_ptr(), len: pool.len() - 4 };
-    let lent = Run { at: rows.as_mut_ptr(), len: rows.len() / unit };
-    queries.iter().map(|ends| unsafe { query(&slots, pool[0], ends, &lent) }).sum()
+    let slots = &pool[4..];
+    let (at, room) = (rows.as_mut_ptr(), rows.len() / unit);
+    let ask = |ends: &Ends| unsafe { query(slots.as_ptr(), slots.len(), pool[0], ends[0], ends[1], at, room) };
+    queries.iter().map(ask).sum()
 }
 
 /// Queries through the entry that writes rows as words.

@@ -27,9 +27,11 @@ fn body_length(kind: u8) -> usize
     }
 }
 
-// Reads until `bytes` is full or the input ends, and answers how many there are at the front.
+// Reads until `bytes` is full or the input ends, and answers how many there are at the front. A read that fails ends it
+// with that error, and leaves at the front what came before.
 fn read_full(input: &mut impl Read, bytes: &mut [u8]) -> io::Result<usize>
-    ensures { IfOk result (λ n. n ≤ length bytes.new) }
+    ensures within { IfOk result (λ n. n ≤ length bytes.new) }
+    ensures as_long { length bytes.new ≡ length bytes.old }
 {
     let mut done = 0;
     while done < bytes.len() {
@@ -46,7 +48,8 @@ fn read_full(input: &mut impl Read, bytes: &mut [u8]) -> io::Result<usize>
 // fewer than the kind asks where the input ends inside the record.
 fn read_record(input: &mut impl Read, bytes: &mut [u8]) -> io::Result<usize>
     requires { length bytes.old ≡ 25 }
-    ensures { IfOk result (λ n. n ≤ 25) }
+    ensures within { IfOk result (λ n. n ≤ 25) }
+    ensures as_long { length bytes.new ≡ 25 }
 {
     if read_full(input, &mut bytes[..1])? == 0 {
         return Ok(0);

@@ -1,6 +1,6 @@
 -- The records: what a query has written on its way, and that the words of the records are the rows of the words form.
 -- Assumes nothing.
-use Prim.Native.Nat.{ℕ, zero, suc, ◌+◌, ◌≤◌, ◌<◌}
+use Prim.Native.Nat.{ℕ, zero, suc, ◌+◌, ◌-◌, ◌≤◌, ◌<◌}
 use mathlib.Core.Bool.{true, false, cond}
 use mathlib.Core.List.{List, [], ◌∷◌, ◌++◌, append-nil}
 use mathlib.Core.Option.{Option, none, some}
@@ -50,7 +50,12 @@ take_all : (es : List Entry) → take (length es) es ≡ es
 take_all [] = refl
 take_all (e ∷ es) = ap (λ rest. e ∷ rest) (take_all es)
 
--- a hit that isn't to be written isn't there, or has no room
+-- a hit that is to be written is there and has room
+is_room : (o : Option Entry) (n m : ℕ) → is_written o n m ≡ true → n < m
+is_room none n m h = let z : ◌≡◌ {A = ℕ} 0 1 = ap (λ b. cond b 1 0) h in absurd (omega arith)
+is_room (some e) n m h = ltb-true n m h
+
+-- and one that isn't to be written isn't there, or has no room
 not_written : (o : Option Entry) (n m : ℕ) → is_written o n m ≡ false → (is_some o ≡ false) ⊎ (m ≤ n)
 not_written none n m h = inl refl
 not_written (some e) n m h = inr (ltb-false n m h)
@@ -85,8 +90,28 @@ pub record On (ss start : List ℕ) (q : Range) (first : Filling) (rows : List H
   pub going :
       (t : Tree) → Ahead ss start q t first → Ahead ss stack q t f × (run ≡ records_into (take f.count (hits q t)) rows)
 
+-- at the start nothing is written
+pub on-start :
+    {ss start : List ℕ} {q : Range} {first : Filling} {rows : List Hit} → first.count ≡ 0 → first.room ≡ length rows
+    → On ss start q first rows first start rows
+on-start {q = q} {rows = rows} none_yet room =
+    record {
+      room_is = room;
+      as_long = refl;
+      going = λ t a. (a, sym (ap (λ n. records_into (take n (hits q t)) rows) none_yet));
+    }
+
 module _ {ss start stack : List ℕ} {q : Range} {first f : Filling} {rows run : List Hit} (w : On ss start q first rows f stack run) where
-  -- with a record that is to be written one more is
+  -- a record that is to be written has its place
+  pub on_within : {t : Tree} → Ahead ss start q t first → f.fits ≡ true → f.count < length run
+  on_within {t} a fits =
+      let now = (w.going t a).0 in
+      let within = is_room now.found f.count f.room (sym now.fits ∙ fits) in
+      let as_long = w.as_long in
+      let room_is = w.room_is in
+      omega arith
+
+  -- with it one more is written
   pub on_turn :
       {f' : Filling} {stack' : List ℕ} → f.fits ≡ true → f'.count ≡ f.count + 1 → f'.room ≡ f.room
       → ((t : Tree) → Ahead ss stack q t f → Ahead ss stack' q t f')
@@ -102,6 +127,13 @@ module _ {ss start stack : List ℕ} {q : Range} {first f : Filling} {rows run :
                   (with_record now.0.found now.0.done (all_hits q now.0.on) rows now.0.all now.0.counted (sym now.0.fits ∙ fits) w.room_is),
             );
       }
+
+  -- and there is less room left
+  pub on_less : {t : Tree} (f' : Filling) → Ahead ss start q t first → f.fits ≡ true → f'.count ≡ f.count + 1 → f'.room ≡ f.room → f'.room - f'.count < f.room - f.count
+  on_less {t} f' a fits one room =
+      let now = (w.going t a).0 in
+      let within = is_room now.found f.count f.room (sym now.fits ∙ fits) in
+      omega arith
 
   -- the end: all are counted, and as many as fit are written
   pub on_end :

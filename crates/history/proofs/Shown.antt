@@ -2,15 +2,15 @@
 -- formatting or clear put in and did not remove, each with the value it went in with". The statement `Promise` is read
 -- first; `kept` shows it for all calls. Assumes nothing.
 use Prim.Native.Nat.{ℕ}
-use mathlib.Core.List.{List, [], ◌∷◌}
+use mathlib.Core.List.{List}
 use mathlib.Core.Path.{◌≡◌, sym, ap, ◌∙◌}
 use lib.ListN.{length}
 use Rattle.rules.specs.Range.{End, range_to}
 use Rattle.rules.specs.Pool.{capacity}
 use Rattle.rules.specs.Request.{querying}
-use Rattle.rules.specs.Entries.{Edited, Queried, Applied, format, edit, query, apply, feed}
-use Rattle.rules.specs.History.{Event, formatting, asking, applying, feeding, history, account_event}
-use Rattle.rules.specs.Calls.{call, calls}
+use Rattle.rules.specs.Entries.{Edited, Queried, Applied, format, query, apply}
+use Rattle.rules.specs.History.{Event, asking, account_event}
+use Rattle.rules.specs.Calls.{call}
 use Rattle.rules.proofs.Applying.{apply_any_run, query-asked}
 use Rattle.rules.proofs.Finding.{AnswersQuery, Applies}
 use Rattle.rules.proofs.Demand.{after, rows_after, Demand, demand}

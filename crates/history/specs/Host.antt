@@ -1,7 +1,7 @@
 -- A host that calls the entries: what their contracts say of the answers and of the words left, and nothing else.
 use Rattle.std.specs.Prelude.{ℕ, List, [], ◌∷◌, ◌≡◌}
 use Rattle.rules.specs.Balance.{left, right}
-use Rattle.rules.specs.Request.{Request, inserting, deleting, deleting_end, clearing, querying}
+use Rattle.rules.specs.Request.{inserting, deleting, deleting_end, clearing, querying}
 use Rattle.rules.specs.Entries.{format, edit, query, apply, feed}
 use Rattle.rules.specs.History.{Event, formatting, asking, applying, feeding}
 use Rattle.held.specs.Records.{words_of}

@@ -14,15 +14,15 @@ use Rattle.rules.specs.Stored.{slot_word}
 use Rattle.rules.proofs.Lengths.{length-slot_of, length-slots_from}
 
 -- the words of the k-th slot of a run of slots
-word-from : (n s k i : ℕ) (p : Pool) → k < n → i < slot_words
+word_from : (n s k i : ℕ) (p : Pool) → k < n → i < slot_words
     → get_or (slots_from n s p) (slot_words * k + i) 0 ≡ get_or (slot_at (s + k) p) i 0
-word-from zero s k i p h j = absurd (omega arith)
-word-from (suc n) s zero i p h j =
+word_from zero s k i p h j = absurd (omega arith)
+word_from (suc n) s zero i p h j =
     let fits : i < length (slot_at s p) = rw length-slot_of j in
     rw (zero-add, add-zero) (get_or-append (slot_at s p) (slots_from n (suc s) p) 0 i fits)
-word-from (suc n) s (suc k) i p h j =
+word_from (suc n) s (suc k) i p h j =
     let place : slot_words * suc k + i ≡ length (slot_at s p) + (slot_words * k + i) = rw length-slot_of (omega arith) in
-    rw (place, get_or-append-add, add-suc, ← suc-add s k) (word-from n (suc s) k i p (omega arith) j)
+    rw (place, get_or-append-add, add-suc, ← suc-add s k) (word_from n (suc s) k i p (omega arith) j)
 
 -- slot s of a pool of c slots has the words of slot s
 pub slot_words_of : (c s i : ℕ) (p : Pool) → 1 ≤ s → s ≤ c → i < slot_words
@@ -30,7 +30,7 @@ pub slot_words_of : (c s i : ℕ) (p : Pool) → 1 ≤ s → s ≤ c → i < slo
 unfolding slot_word
 slot_words_of c s i p low high j =
     let number : 1 + (s - 1) ≡ s = omega arith in
-    rw number at (word-from c 1 (s - 1) i p (omega arith) j)
+    rw number at (word_from c 1 (s - 1) i p (omega arith) j)
 
 -- two runs of slots are the same where their words are
 pub same_slots : (c : ℕ) (ss us : List ℕ) → length ss ≡ slot_words * c → length us ≡ slot_words * c

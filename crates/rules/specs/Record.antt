@@ -12,7 +12,7 @@ metre = 1000000
 abbrev pub link : ℕ
 link = 201168
 
--- "numbers little_endian": the number of the first n bytes
+-- "numbers little-endian": the number of the first n bytes
 abbrev pub little_endian : ℕ → List ℕ → ℕ
 little_endian zero bs = 0
 little_endian (suc n) [] = 0

@@ -62,16 +62,20 @@ fn read_record(input: &mut impl Read, bytes: &mut [u8]) -> io::Result<usize>
 // Writes the line of a record that was no query, or of one that was refused.
 fn write_answer(rt: &impl Print, number: u64) -> io::Result<()> {
     match number {
-        0 => println!(rt; "done"),
-        1 => println!(rt; "kept"),
-        2 => println!(rt; "none"),
-        _ => println!(rt; "no {number}"),
+        0 => rt.write_all(b"done\n"),
+        1 => rt.write_all(b"kept\n"),
+        2 => rt.write_all(b"none\n"),
+        _ => {
+            rt.write_all(b"no ")?;
+            println!(rt; "{number}")
+        }
     }
 }
 
 // Writes the line of one hit.
 fn write_hit(rt: &impl Print, start: u64, end: u64, value: u64) -> io::Result<()> {
-    println!(rt; "hit {start} {end} {value}")
+    rt.write_all(b"hit ")?;
+    println!(rt; "{start} {end} {value}")
 }
 
 // Writes the lines of a query: each hit, then their count.
@@ -84,7 +88,8 @@ fn write_hits(rt: &impl Print, rows: &[u64], hits: usize) -> io::Result<()>
         write_hit(rt, rows[at], rows[at + 1], rows[at + 2])?;
         i += 1;
     }
-    println!(rt; "end {hits}")
+    rt.write_all(b"end ")?;
+    println!(rt; "{hits}")
 }
 
 // Whether the record at the front of the bytes is a query.

@@ -1,4 +1,4 @@
--- The measure is the stored height.
+-- The measure is the stored height. Assumes nothing.
 use Rattle.node.specs.Node.{levels_at}
 use Rattle.tree.proofs.+delete.Given as goal
 

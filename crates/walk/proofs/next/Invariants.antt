@@ -1,5 +1,5 @@
 -- The loop's invariant: the next hit is the one that was to be found at the start. The measure is the number of entries
--- pending.
+-- pending. Assumes nothing.
 use lib.ListN.{take}
 use Rattle.interval.specs.Interval.{range_of}
 use Rattle.rules.specs.Steps.{Pending}

@@ -10,7 +10,7 @@ use Rattle.rules.specs.Limits.{slot_words}
 use Rattle.rules.specs.Tree.{Entry, Tree, leaf, node, levels}
 use Rattle.rules.specs.Balance.{Side, near, far, other, join, lift, straight, mend}
 use Rattle.rules.specs.Pool.{times, slots}
-use Rattle.rules.specs.Stored.{Within, Rooted, Left}
+use Rattle.rules.specs.Stored.{Rooted, Left}
 use Rattle.rules.proofs.Tests.{lt_cases}
 use Rattle.rules.proofs.Times.{times-one}
 use Rattle.rules.proofs.Inorder.{entries-lift, entries-straight}
@@ -48,11 +48,6 @@ Rotates s ss after k a b top = (e : Entry) (t u : Tree) → Hung ss k a b e t u 
 
 abbrev pub Rotatable : List ℕ → ℕ → ℕ → ℕ → Type 0
 Rotatable ss k a b = (e : Entry) × (t : Tree) × (u : Tree) × Hung ss k a b e t u × (1 ≤ levels t)
-
--- the slot of a rooted node is one of these words
-pub root-within : {ss : List ℕ} {a : ℕ} (t : Tree) → Rooted ss a t → 1 ≤ levels t → Within ss a
-root-within leaf p tall = absurd (omega arith)
-root-within (node f l r) p tall = (at-node p).at
 
 -- Straightening the child a on the side: its children on the side and on the other are `outer` and `inner`.
 module _ (s : Side) {ss : List ℕ} {a inner outer : ℕ} (inner_is : inner ≡ far_child s ss a) (outer_is : outer ≡ near_child s ss a) where

@@ -7,7 +7,7 @@ use Rattle.rules.specs.Limits.{half}
 use Rattle.rules.specs.Tree.{Entry, Tree, leaf, node, levels}
 use Rattle.rules.specs.Balance.{Side, near, far, join, lift}
 use Rattle.rules.specs.Pool.{times, slots}
-use Rattle.rules.specs.Stored.{slot_word, Within, Left}
+use Rattle.rules.specs.Stored.{slot_word, Left}
 use Rattle.rules.proofs.Times.{times-node, times-one}
 use Rattle.node.proofs.Trees.{AtNode, at-node, bears-kept, rooted-kept, left-then}
 use Rattle.node.specs.Node.{Hung}
@@ -23,10 +23,6 @@ far_child s ss k = far s (slot_word ss k 4 % half) (slot_word ss k 4 / half)
 module _ (s : Side) {ss : List ℕ} {k a b : ℕ} {e f : Entry} {l r u : Tree} (h : Hung ss k a b e (node f l r) u) where
   risen : AtNode ss a f l r
   risen = at-node h.left
-
-  -- the slot that comes up is one of these words
-  rising_within : Within ss a
-  rising_within = risen.at
 
   -- no slot is counted twice among the parts
   parts_once : (x : ℕ) → times x (e.slot ∷ []) + ((times x (f.slot ∷ []) + (times x (slots (near s l r)) + times x (slots (far s l r)))) + times x (slots u)) ≤ 1
@@ -80,10 +76,6 @@ Joinable ss k a b = (e : Entry) × (t : Tree) × (u : Tree) × Hung ss k a b e t
 
 -- The same for whatever tree is on the side, where there is one.
 module _ (s : Side) {ss : List ℕ} {k a b : ℕ} where
-  pub comes_up : (e : Entry) (t u : Tree) → Hung ss k a b e t u → 1 ≤ levels t → Within ss a
-  comes_up e leaf u h tall = absurd (omega arith)
-  comes_up e (node f l r) u h tall = rising_within s h
-
   module _ {inner outer : ℕ} (inner_is : inner ≡ far_child s ss a) (outer_is : outer ≡ near_child s ss a) where
     pub first_join : (e : Entry) (t u : Tree) → Hung ss k a b e t u → 1 ≤ levels t → Joinable ss k inner b
     first_join e leaf u h tall = absurd (omega arith)

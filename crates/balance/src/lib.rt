@@ -1,16 +1,16 @@
 // lib.rs of the crate, first half: the rotations and `balance`, in place over slot numbers. A side serves for both.
 #![tactic(auto)]
 
-ghost use Rattle.std.specs.Prelude.{◌≡◌, ◌%◌, ◌/◌, ◌≤◌};
+ghost use Rattle.std.specs.Prelude.{◌≡◌, ◌+◌, ◌*◌, ◌%◌, ◌/◌, ◌≤◌, ◌<◌};
 ghost use Rattle.rules.specs.Tree.{Entry, Tree, levels};
-ghost use Rattle.rules.specs.Balance.{join, lift, straight, mend, balance, near, other};
+ghost use Rattle.rules.specs.Balance.{join, lift, straight, mend, balance, near, far, other};
 ghost use Rattle.rules.specs.Limits.{half};
 ghost use Rattle.rules.specs.Stored.{slot_word, Within, Rooted};
 ghost use Rattle.rules.specs.Stored as stored;
 ghost use Rattle.node.specs.Node.{Hung};
 ghost use Rattle.balance.specs.Sides.{side_of};
 
-use node::Factor;
+use node::{Factor, LINKS};
 
 // Left or right.
 #[derive(Clone, Copy)]
@@ -19,33 +19,46 @@ pub enum Side {
     Right,
 }
 
-// Of two numbers, left and right, the one on the side.
-fn on_side(side: Side, left: u64, right: u64) -> u64
-    ensures { result ≡ near (side_of side) left right }
-{
-    match side {
-        Side::Left => left,
-        Side::Right => right,
+impl Side {
+    // Of two numbers, left and right, the one on the side.
+    fn of(self, left: u64, right: u64) -> u64
+        ensures { result ≡ near (side_of self) left right }
+    {
+        match self {
+            Side::Left => left,
+            Side::Right => right,
+        }
     }
-}
 
-// The other side.
-pub fn opposite(side: Side) -> Side
-    ensures { side_of result ≡ other (side_of side) }
-{
-    match side {
-        Side::Left => Side::Right,
-        Side::Right => Side::Left,
+    // The other side.
+    pub fn opposite(self) -> Self
+        ensures { side_of result ≡ other (side_of self) }
+    {
+        match self {
+            Side::Left => Side::Right,
+            Side::Right => Side::Left,
+        }
     }
-}
 
-// The child of slot k on the side, 0 for none.
-pub fn child(slots: &[u64], side: Side, k: u64) -> u64
-    requires { Within slots.now k }
-    ensures { result ≡ near (side_of side) (slot_word slots.now k 4 % half) (slot_word slots.now k 4 / half) }
-{
-    let links = node::word(slots, k, 4);
-    on_side(side, node::low(links), node::high(links))
+    // The child of slot k on the side, 0 for none.
+    pub fn child(self, slots: &[u64], k: u64) -> u64
+        requires { Within slots.now k }
+        ensures { result ≡ near (side_of self) (slot_word slots.now k 4 % half) (slot_word slots.now k 4 / half) }
+    {
+        let links = node::word(slots, k, LINKS);
+        self.of(node::low(links), node::high(links))
+    }
+
+    // The links to `a` on the side and `b` on the other side.
+    pub fn links(self, a: u64, b: u64) -> u64
+        requires { (a < half) × (b < half) }
+        ensures { result ≡ near (side_of self) a b + half * far (side_of self) a b }
+    {
+        match self {
+            Side::Left => node::pack(a, b),
+            Side::Right => node::pack(b, a),
+        }
+    }
 }
 
 // Makes `a` the child of slot k on the side and `b` its child on the other side.
@@ -65,8 +78,8 @@ fn rotate(slots: &mut [u64], side: Side, k: u64, a: u64, b: u64) -> u64
     requires { (e : Entry) × (t : Tree) × (u : Tree) × Hung slots.old k a b e t u × (1 ≤ levels t) }
     ensures { (e : Entry) (t u : Tree) → Hung slots.old k a b e t u → 1 ≤ levels t → stored.Left slots.old slots.new result (lift (side_of side) e t u) }
 {
-    let outer = child(slots, side, a);
-    let inner = child(slots, opposite(side), a);
+    let outer = side.child(slots, a);
+    let inner = side.opposite().child(slots, a);
     join(slots, side, k, inner, b);
     join(slots, side, a, outer, k);
     a
@@ -78,9 +91,9 @@ fn straighten(slots: &mut [u64], side: Side, a: u64) -> u64
     requires { (t : Tree) × Rooted slots.old a t × (1 ≤ levels t) }
     ensures { (t : Tree) → Rooted slots.old a t → 1 ≤ levels t → stored.Left slots.old slots.new result (straight (side_of side) t) }
 {
-    let turned = opposite(side);
-    let outer = child(slots, side, a);
-    let inner = child(slots, turned, a);
+    let turned = side.opposite();
+    let outer = side.child(slots, a);
+    let inner = turned.child(slots, a);
     if node::height(slots, outer) < node::height(slots, inner) {
         return rotate(slots, turned, a, inner, outer);
     }

@@ -2,33 +2,21 @@
 // came out are those that should, and how many there should be.
 #![tactic(auto)]
 
-ghost use Rattle.std.specs.Prelude.{◌≤◌, ◌<◌, length};
+ghost use Rattle.std.specs.Prelude.{◌≡◌, ◌<◌, ◌^◌, ◌==◌, count_by};
+ghost use Rattle.std.specs.List.{zip};
 
 use hindraloha::{hindraloha_delete, hindraloha_format, hindraloha_insert, hindraloha_query};
 use rules::POOL_WORDS;
 use std::io;
 
-// 1 where both lists have the same number at place i, else 0.
-fn same_at(got: &[u64], expected: &[u64], i: usize) -> usize
-    requires { i < length expected.now }
-    ensures { result ≤ 1 }
-{
-    if i < got.len() && got[i] == expected[i] {
-        1
-    } else {
-        0
-    }
-}
-
 // How many numbers of the one list stand at the same place in the other.
-fn same(got: &[u64], expected: &[u64]) -> usize {
-    let mut count = 0;
-    let mut i = 0;
-    while i < expected.len() {
-        count += same_at(got, expected, i);
-        i += 1;
-    }
-    count
+fn same(got: &[u64], expected: &[u64]) -> usize
+    ensures { result ≡ count_by (λ p. p.0 == p.1) (zip got.now expected.now) }
+{
+    got.iter()
+        .zip(expected)
+        .filter(|(got, expected)| got == expected)
+        .count()
 }
 
 // Writes the line of a case: its name, how many numbers are as expected, and how many are expected.
@@ -73,19 +61,25 @@ fn example_11(rt: &impl Print) -> io::Result<()> {
     )
 }
 
+// A word more than the largest pool has.
+const WORDS_BEYOND: usize = POOL_WORDS + 1;
+
+// Formats so many words, and answers the number. An array is smaller than the memory.
+fn format<const WORDS: usize>() -> u64
+    requires { WORDS < 2 ^ 60 }
+{
+    let mut words = [0u64; WORDS];
+    hindraloha_format(&mut words).number
+}
+
 // "Lengths 4, 15 and 24,575 give 10; 10 and 24,574 are right lengths."
 fn example_12(rt: &impl Print) -> io::Result<()> {
-    let mut four = [0u64; 4];
-    let mut ten = [0u64; 10];
-    let mut fifteen = [0u64; 15];
-    let mut most = [0u64; POOL_WORDS];
-    let mut beyond = [0u64; POOL_WORDS + 1];
     let numbers = [
-        hindraloha_format(&mut four).number,
-        hindraloha_format(&mut ten).number,
-        hindraloha_format(&mut fifteen).number,
-        hindraloha_format(&mut most).number,
-        hindraloha_format(&mut beyond).number,
+        format::<4>(),
+        format::<10>(),
+        format::<15>(),
+        format::<POOL_WORDS>(),
+        format::<WORDS_BEYOND>(),
     ];
     write_case(rt, "example 12", &numbers, &[10, 0, 10, 0, 10])
 }

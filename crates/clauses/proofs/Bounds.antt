@@ -10,9 +10,8 @@ use Rattle.rules.specs.Pool.{ascending}
 use Rattle.rules.specs.Held.{entry_at}
 use Rattle.rules.specs.Stored.{slot_word}
 use Rattle.rules.proofs.Tests.{eq_cases}
-use Rattle.interval.specs.Interval.{range_of, order_of}
+use Rattle.interval.specs.Interval.{range_of}
 use Rattle.interval.specs.declared.Interval.{Interval}
-use Rattle.interval.specs.declared.Ordering.{Ordering}
 use Rattle.clauses.specs.Slot.{bound}
 
 -- the entry in a slot is a bound, and none is none
@@ -42,12 +41,11 @@ decided_by less r s h = rw (← h) refl
 decided_by same r s h = rw (← h) refl
 decided_by more r s h = rw (← h) refl
 
-pub compared : (ss : List ℕ) (a b : ℕ) {i j : Interval} {x y : Ordering} → (a ≡ 0 → ⊥) → (b ≡ 0 → ⊥)
+pub compared : (ss : List ℕ) (a b : ℕ) {i j : Interval} → (a ≡ 0 → ⊥) → (b ≡ 0 → ⊥)
     → range_of i ≡ range (slot_word ss a 0) (slot_word ss a 1)
     → range_of j ≡ range (slot_word ss b 0) (slot_word ss b 1)
-    → order_of x ≡ order (range_of i) (range_of j) → x ≡ y
-    → is_less (order_of y) ≡ ascending (bound ss a ++ bound ss b)
-compared ss a b {i} {j} {x} {y} some-a some-b first second is told =
+    → is_less (order (range_of i) (range_of j)) ≡ ascending (bound ss a ++ bound ss b)
+compared ss a b {i} {j} some-a some-b first second =
     rw (bound_some ss a some-a, bound_some ss b some-b)
-    (decided_by (order_of y) (range (slot_word ss a 0) (slot_word ss a 1)) (range (slot_word ss b 0) (slot_word ss b 1))
-    (cc))
+    (decided_by (order (range_of i) (range_of j)) (range (slot_word ss a 0) (slot_word ss a 1))
+    (range (slot_word ss b 0) (slot_word ss b 1)) (cc))

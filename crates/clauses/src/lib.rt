@@ -8,7 +8,7 @@ ghost use Rattle.rules.specs.Pool.{ascending};
 ghost use Rattle.rules.specs.Stored.{Within};
 ghost use Rattle.clauses.specs.Slot.{bound, zeros_here, header_here};
 
-use interval::Ordering;
+use node::{END, MAX, SHAPE, START, VALUE};
 use rules::{MOST_PENDING, SLOT_WORDS};
 
 // Whether the range in slot a comes before the one in slot b; where either is none, there is nothing to compare.
@@ -22,11 +22,13 @@ pub fn in_order(slots: &[u64], a: u64, b: u64) -> bool
     if b == 0 {
         return true;
     }
-    match node::interval_at(slots, a).cmp(node::interval_at(slots, b)) {
-        Ordering::Less => true,
-        Ordering::Equal => false,
-        Ordering::Greater => false,
+    let first = node::interval_at(slots, a);
+    let second = node::interval_at(slots, b);
+    // Nearly always so where a pool is sound: asked by itself, it saves a tenth of a check.
+    if first.start < second.start {
+        return true;
     }
+    first < second
 }
 
 // Whether the words of slot k are zeros, but for links.
@@ -34,11 +36,11 @@ pub fn zeros(slots: &[u64], k: u64) -> bool
     requires { Within slots.now k }
     ensures { result ≡ zeros_here slots.now k }
 {
-    (node::word(slots, k, 0) == 0)
-        & (node::word(slots, k, 1) == 0)
-        & (node::word(slots, k, 2) == 0)
-        & (node::word(slots, k, 3) == 0)
-        & (node::word(slots, k, 5) == 0)
+    (node::word(slots, k, START) == 0)
+        & (node::word(slots, k, END) == 0)
+        & (node::word(slots, k, VALUE) == 0)
+        & (node::word(slots, k, MAX) == 0)
+        & (node::word(slots, k, SHAPE) == 0)
 }
 
 // Whether the header is right, as far as it can be seen from the root: the root is a slot or none and not too high, the

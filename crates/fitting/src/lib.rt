@@ -7,6 +7,7 @@ ghost use Rattle.rules.specs.Limits.{half};
 ghost use Rattle.rules.specs.Stored.{slot_word, Within};
 ghost use Rattle.fitting.specs.Fits.{exact_shape, exact_over, fits_here};
 
+use node::{END, LINKS, MAX, SHAPE};
 use rules::SLOT_WORDS;
 
 // The left child of slot k.
@@ -14,7 +15,7 @@ pub fn left(slots: &[u64], k: u64) -> u64
     requires { Within slots.now k }
     ensures { result ≡ slot_word slots.now k 4 % half }
 {
-    node::low(node::word(slots, k, 4))
+    node::low(node::word(slots, k, LINKS))
 }
 
 // The right child of slot k: a number that fits in three quarters of a word.
@@ -22,7 +23,7 @@ pub fn right(slots: &[u64], k: u64) -> u64
     requires { Within slots.now k }
     ensures { (result ≡ slot_word slots.now k 4 / half) × (result < 2 ^ 48) }
 {
-    node::high(node::word(slots, k, 4))
+    node::high(node::word(slots, k, LINKS))
 }
 
 // Whether slot k, which has no children, is right: height 0, size 1 and its own end as max.
@@ -30,8 +31,8 @@ pub fn fits_alone(slots: &[u64], k: u64) -> bool
     requires { Within slots.now k × (slot_word slots.now k 4 ≡ 0) }
     ensures { result ≡ fits_here slots.now k }
 {
-    (node::word(slots, k, 5) == node::pack(0, 1))
-        & (node::word(slots, k, 3) == node::word(slots, k, 1))
+    (node::word(slots, k, SHAPE) == node::pack(0, 1))
+        & (node::word(slots, k, MAX) == node::word(slots, k, END))
 }
 
 // Whether height, size and max in slot k are exact over its only child c.
@@ -39,13 +40,13 @@ fn fits_one(slots: &[u64], k: u64, c: u64) -> bool
     requires { Within slots.now k × Within slots.now c }
     ensures { result ≡ exact_over slots.now k c 0 }
 {
-    let shape = node::word(slots, k, 5);
-    let below = node::word(slots, c, 5);
-    let max = interval::larger(node::word(slots, k, 1), node::word(slots, c, 3));
+    let shape = node::word(slots, k, SHAPE);
+    let below = node::word(slots, c, SHAPE);
+    let max = node::word(slots, k, END).max(node::word(slots, c, MAX));
     (node::low(shape) == 1)
         & (node::low(below) == 0)
         & (node::high(shape) == node::high(below) + 1)
-        & (node::word(slots, k, 3) == max)
+        & (node::word(slots, k, MAX) == max)
 }
 
 // Whether a shape is exact over two children that have the shapes `left` and `right`, with heights that differ by one at
@@ -57,7 +58,7 @@ fn is_shape_over(shape: u64, left: u64, right: u64) -> bool
     let b = node::low(right);
     (a <= b + 1)
         & (b <= a + 1)
-        & (node::low(shape) == interval::larger(a, b) + 1)
+        & (node::low(shape) == a.max(b) + 1)
         & (node::high(shape) == node::high(left) + node::high(right) + 1)
 }
 
@@ -66,12 +67,12 @@ fn fits_both(slots: &[u64], k: u64, l: u64, r: u64) -> bool
     requires { Within slots.now k × Within slots.now l × Within slots.now r }
     ensures { result ≡ exact_over slots.now k l r }
 {
-    let shape = node::word(slots, k, 5);
-    let left = node::word(slots, l, 5);
-    let right = node::word(slots, r, 5);
-    let below = interval::larger(node::word(slots, l, 3), node::word(slots, r, 3));
+    let shape = node::word(slots, k, SHAPE);
+    let left = node::word(slots, l, SHAPE);
+    let right = node::word(slots, r, SHAPE);
+    let below = node::word(slots, l, MAX).max(node::word(slots, r, MAX));
     is_shape_over(shape, left, right)
-        & (node::word(slots, k, 3) == interval::larger(node::word(slots, k, 1), below))
+        & (node::word(slots, k, MAX) == node::word(slots, k, END).max(below))
 }
 
 // Whether slot k, which has children, is right over them: each is a slot or none, and height, size and max are exact.

@@ -4,18 +4,19 @@ use mathlib.Core.Bool.{Bool, true, false, cond}
 use mathlib.Core.List.{List}
 use mathlib.Core.Option.{Option, none, some}
 use mathlib.Core.Path.{◌≡◌, refl, sym, ap, ◌∙◌}
-use native.Mathlib.Omega.{arith}
 use lib.ListN.{length}
+use Rattle.std.specs.Prelude.{Result, Ok, Err}
 use Rattle.rules.specs.Pool.{Pool, Holds, capacity, right_length}
 use Rattle.rules.specs.Held.{held}
 use Rattle.rules.specs.Range.{End}
 use Rattle.rules.specs.Request.{querying, serve, is_refusal}
 use Rattle.rules.specs.Entries.{guarded, sound_only, check, query, rows_into}
-use Rattle.rules.proofs.Held.{held-holds, holds-held}
-use Rattle.query.specs.Asks.{answered_with}
-
-true_not_false : true ≡ false → ⊥
-true_not_false e = let z : ◌≡◌ {A = ℕ} 1 0 = ap (λ b. cond b 1 0) e in omega arith
+use Rattle.rules.proofs.Held.{holds-held}
+use Rattle.request.specs.Answers.{refusal_number, zero_or_refusal}
+use Rattle.request.specs.declared.Refusal.{Refusal}
+use Rattle.request.proofs.Refused.{is_refused}
+use Rattle.sound.proofs.Answers.{sound_exactly}
+use Rattle.query.specs.Answers.{queried_of}
 
 -- the number n of a check, and the test whether it is a refusal
 module _ (ws : List ℕ) {n : ℕ} {tested : Bool} (is : n ≡ check ws) (test : tested ≡ is_refusal n) where
@@ -34,31 +35,31 @@ module _ (ws : List ℕ) {n : ℕ} {tested : Bool} (is : n ≡ check ws) (test :
           ≡ cond r (sound_only o refused (answer (capacity (length ws)))) (refused 10)
       go false o h = refl
       go true none h = refl
-      go true (some p) h = absurd (true_not_false (sym h))
+      go true (some p) h = cc
+
+-- the answer r of a check
+module _ (ws : List ℕ) {B : Type 0} {r : Result B Refusal} (is : zero_or_refusal r ≡ check ws) where
+  -- a pool that is refused is refused with the refusal's number
+  pub refused_by : {A : Type 0} {e : Refusal} → r ≡ Err e → (refused : ℕ → A) (answer : ℕ → Pool → A)
+      → refused (refusal_number e) ≡ guarded ws refused answer
+  refused_by {A} {e} err refused answer =
+      refused_whole ws (sym (ap zero_or_refusal err) ∙ is) refl (is_refused e) refused answer
 
   -- a pool that passes is held
-  pub passed : tested ≡ false → (p : Pool) × Holds ws p
-  unfolding check
-  passed h = go (right_length (length ws)) (held ws) refl (by_check ∙ h)
-    where
-      go : (r : Bool) (o : Option Pool) → held ws ≡ o → is_refusal (cond r (sound_only o (λ n. n) (λ p. 0)) 10) ≡ false
-          → (p : Pool) × Holds ws p
-      go false o e h = absurd (true_not_false h)
-      go true none e h = absurd (true_not_false h)
-      go true (some p) e h = (p, held-holds ws p e)
-
-  -- and its number is 0
-  pub passed_zero : tested ≡ false → n ≡ 0
-  unfolding check
-  passed_zero h = let held = (passed h).1 in is ∙ rw (held.right, holds-held held) refl
+  pub passed : {b : B} → r ≡ Ok b → (p : Pool) × Holds ws p
+  passed ok = (sound_exactly ws).0 (sym is ∙ ap zero_or_refusal ok)
 
   -- a query of a refused pool counts nothing and leaves the run
-  pub query_refused : tested ≡ true → (d : End) (a b : ℕ) (run : List ℕ) → answered_with n 0 run ≡ query d a b ws run
+  pub query_refused : {e : Refusal} → r ≡ Err e → (d : End) (a b : ℕ) (run : List ℕ) → queried_of (Err e) run ≡ query d a b ws run
   unfolding query
-  query_refused h d a b run =
-      refused_whole h (λ m. answered_with m 0 run)
+  query_refused err d a b run =
+      refused_by err (λ m. record { number = m; count = 0; run = run })
       (λ c p.
-      answered_with (serve c (querying d a b) p).number (length (serve c (querying d a b) p).hits) (rows_into (serve c (querying d a b) p).hits run))
+      record {
+        number = (serve c (querying d a b) p).number;
+        count = length (serve c (querying d a b) p).hits;
+        run = rows_into (serve c (querying d a b) p).hits run;
+      })
 
 -- a sound pool is answered
 pub answered : {A : Type 0} {ws : List ℕ} {p : Pool} (refused : ℕ → A) (answer : ℕ → Pool → A) → Holds ws p

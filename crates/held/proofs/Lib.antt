@@ -1,4 +1,4 @@
--- The laws of the query by records: how it goes on and ends, what it has written, and that its records are the words form's
--- rows.
-pub mod Ahead
+-- The laws of the walk that keeps hold of its pool, and of the query by records: which hit is the first, and that records are
+-- the words form's rows.
+pub mod Earliest
 pub mod Records

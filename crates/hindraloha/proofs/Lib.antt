@@ -1,4 +1,3 @@
 -- The laws of the entries: a refused pool, and a sound one.
 pub mod Answering
 pub mod Telling
-pub mod Asking

@@ -1,40 +1,49 @@
 -- What size, height and `is_empty` tell of a sound pool, from its header and its root. Assumes nothing.
 use Prim.Native.Nat.{ℕ, ◌%◌, max}
-use mathlib.Core.Bool.{Bool, true, cond}
+use mathlib.Core.Bool.{Bool, true, false, cond}
 use mathlib.Core.List.{List}
 use mathlib.Core.Path.{◌≡◌, refl, sym, ap, ◌∙◌}
 use lib.Dec.{eqb}
 use lib.IntN.{ℤ, pos, negsuc}
 use lib.ListN.{get_or, drop}
-use borrow.Author.Tests.{eq-eqb, ne_eqb}
+use Rattle.std.specs.Prelude.{Result, Err}
+use mir.Val.{bool_byte}
 use native.Mathlib.Omega.{arith}
 use Rattle.rules.specs.Limits.{header_words, half}
 use Rattle.rules.specs.Tree.{Tree, leaf, node, levels, size, height}
 use Rattle.rules.specs.Pool.{Pool, Holds}
-use Rattle.rules.specs.Request.{is_refusal}
 use Rattle.rules.specs.Entries.{Told, check, size_of, height_of, is_empty}
 use Rattle.rules.specs.Stored.{slot_word, Within, Rooted}
 use Rattle.rules.proofs.Stored.{holds_laid, holds-rooted}
 use Rattle.rules.proofs.Reading.{low_half}
 use Rattle.node.proofs.Trees.{at-node, at_root}
-use Rattle.guard.proofs.Guarded.{refused_whole, answered}
+use Rattle.request.specs.Answers.{zero_or_refusal}
+use Rattle.request.specs.declared.Refusal.{Refusal}
+use Rattle.guard.proofs.Guarded.{refused_by, answered}
+use Rattle.hindraloha.specs.Entries.{told_of}
 
-module _ (ws : List ℕ) {n : ℕ} {tested : Bool} (is : n ≡ check ws) (test : tested ≡ is_refusal n) (h : tested ≡ true) where
-  pub size_refused : ◌≡◌ {A = Told ℕ} (record { number = n; told = 0 }) (size_of ws)
+-- a pool that the check refused, with the answer r
+module _ (ws : List ℕ) {B : Type 0} {r : Result B Refusal} {e : Refusal} (is : zero_or_refusal r ≡ check ws) (err : r ≡ Err e) where
+  pub size_refused : told_of 0 (Err e) ≡ size_of ws
   unfolding size_of
   size_refused =
-      refused_whole ws is test h (λ m. record { number = m; told = 0 }) (λ c p. record { number = 0; told = size p.tree })
+      refused_by ws is err (λ m. record { number = m; told = 0 }) (λ c p. record { number = 0; told = size p.tree })
 
-  pub empty_refused : ◌≡◌ {A = Told ℕ} (record { number = n; told = 0 }) (is_empty ws)
+  pub empty_refused : told_of 0 (Err e) ≡ is_empty ws
   unfolding is_empty
   empty_refused =
-      refused_whole ws is test h (λ m. record { number = m; told = 0 })
+      refused_by ws is err (λ m. record { number = m; told = 0 })
       (λ c p. record { number = 0; told = cond (eqb (size p.tree) 0) 1 0 })
 
-  pub height_refused : ◌≡◌ {A = Told ℤ} (record { number = n; told = pos 0 }) (height_of ws)
+  pub height_refused : told_of (pos 0) (Err e) ≡ height_of ws
   unfolding height_of
   height_refused =
-      refused_whole ws is test h (λ m. record { number = m; told = pos 0 }) (λ c p. record { number = 0; told = height p.tree })
+      refused_by ws is err (λ m. record { number = m; told = pos 0 }) (λ c p. record { number = 0; told = height p.tree })
+
+-- a test as a number
+as_number : (b : Bool) → bool_byte b ≡ cond b 1 0
+as_number false = refl
+as_number true = refl
 
 module _ {ws : List ℕ} {p : Pool} (h : Holds ws p) where
   pub size_told : (n : ℕ) → n ≡ get_or ws 2 0 → ◌≡◌ {A = Told ℕ} (record { number = 0; told = n }) (size_of ws)
@@ -49,12 +58,9 @@ module _ {ws : List ℕ} {p : Pool} (h : Holds ws p) where
       (λ i. record { number = 0; told = is i })
       ∙ answered (λ m. record { number = m; told = 0 }) (λ c p. record { number = 0; told = cond (eqb (size p.tree) 0) 1 0 }) h
 
-  pub empty_told : (n : ℕ) → n ≡ get_or ws 2 0 → n ≡ 0 → ◌≡◌ {A = Told ℕ} (record { number = 0; told = 1 }) (is_empty ws)
-  empty_told n is none = empty_by 1 (rw (eq-eqb (size p.tree) 0 (sym (is ∙ (holds_laid h).head.live_word) ∙ none)) refl)
-
-  pub not_empty_told : (n : ℕ) → n ≡ get_or ws 2 0 → (n ≡ 0 → ⊥) → ◌≡◌ {A = Told ℕ} (record { number = 0; told = 0 }) (is_empty ws)
-  not_empty_told n is some =
-      empty_by 0 (rw (ne_eqb (size p.tree) 0 (λ e. some (is ∙ (holds_laid h).head.live_word ∙ e))) refl)
+  pub empty_told : (n t : ℕ) → n ≡ get_or ws 2 0 → t ≡ bool_byte (eqb n 0) → ◌≡◌ {A = Told ℕ} (record { number = 0; told = t }) (is_empty ws)
+  empty_told n t is told =
+      empty_by t (told ∙ ap (λ (m : ℕ). bool_byte (eqb m 0)) (is ∙ (holds_laid h).head.live_word) ∙ as_number (eqb (size p.tree) 0))
 
   height_by : (z : ℤ) → z ≡ height p.tree → ◌≡◌ {A = Told ℤ} (record { number = 0; told = z }) (height_of ws)
   unfolding height_of

@@ -1,5 +1,5 @@
-// The query that fills a lent list of hit records. The entry only calls: what is to be walked is found by crate `guard`,
-// and walked by crate `held`.
+// The query that fills a lent list of hit records. The entry only calls: the pool is checked and walked by crate
+// `guard`.
 ghost use Rattle.std.specs.Prelude.{◌≡◌};
 ghost use Rattle.rules.specs.Entries.{query};
 ghost use Rattle.held.specs.Records.{words_of};
@@ -20,11 +20,6 @@ pub fn hindraloha_query_records(
 ) -> Hits
     ensures { queried result (words_of rows.new) ≡ query (end_of_flag included) start end pool.now (words_of rows.old) }
 {
-    let asked = guard::ask(pool, start, end, included);
-    let slots = query::slots(pool, asked.first);
-    let hits = held::query(slots, asked.root, asked.range, rows);
-    Hits {
-        number: asked.number,
-        hits,
-    }
+    let stretch = guard::stretch(start, end, included);
+    Hits::from(guard::list(pool, stretch, rows))
 }

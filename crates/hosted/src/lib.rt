@@ -3,7 +3,8 @@
 // more than a number, it promises the rest of it too. So a case that describes another call than its entry's, or that is
 // left out, is refused here, and so is an entry whose code and contract are changed together. hindraloha_check, _size,
 // _height and _is_empty are lent the pool to read only, and name no rows: they leave all words by their type, so that they
-// are no events and have no function here.
+// are no events and have no function here. They stand apart from the entries, since they promise another thing, and the
+// archive for C is made without it.
 #![tactic(auto)]
 
 pub mod by_records; // the query that fills a lent list of hit records

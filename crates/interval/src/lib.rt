@@ -1,68 +1,15 @@
 // interval.rs of the crate: a range of track, its order, and what two ranges share.
 #![tactic(auto)]
 
-ghost use Rattle.std.specs.Prelude.{◌≡◌, max, min};
-ghost use Rattle.rules.specs.Range.{range, order, is_less, is_same, is_valid, overlaps, intersect, range_to, included};
-ghost use Rattle.interval.specs.Interval.{range_of, order_of, shared_of, included_of};
+ghost use Rattle.std.specs.Prelude.{◌≡◌};
+ghost use Rattle.rules.specs.Range.{range, is_valid, overlaps, intersect, range_to, included};
+ghost use Rattle.interval.specs.Interval.{range_of, found_of};
 
-// How two ranges stand.
-#[derive(Clone, Copy)]
-pub enum Ordering {
-    Less,
-    Equal,
-    Greater,
-}
-
-// start..end
-#[derive(Clone, Copy)]
+// start..end. Ranges are compared by start, then by end.
+#[derive(Clone, Copy, PartialEq, Eq, PartialOrd, Ord)]
 pub struct Interval {
     pub start: u64,
     pub end: u64,
-}
-
-// What two ranges share: a range, or nothing.
-#[derive(Clone, Copy)]
-pub enum Shared {
-    Some(Interval),
-    None,
-}
-
-// The range up to an end that is included, or none: past the largest number there is no end.
-#[derive(Clone, Copy)]
-pub enum Included {
-    Range(Interval),
-    PastEnd,
-}
-
-// The larger of two numbers.
-pub fn larger(a: u64, b: u64) -> u64
-    ensures { result ≡ max a b }
-{
-    if a < b { b } else { a }
-}
-
-// The smaller of two numbers.
-fn smaller(a: u64, b: u64) -> u64
-    ensures { result ≡ min a b }
-{
-    if a < b { a } else { b }
-}
-
-// Whether the range start..end comes before the range here..last: by start, then by end.
-pub fn before(start: u64, end: u64, here: u64, last: u64) -> bool
-    ensures { result ≡ is_less (order (range start end) (range here last)) }
-{
-    if start == here {
-        return end < last;
-    }
-    start < here
-}
-
-// Whether both numbers of the range start..end are those of the range here..last.
-pub fn same(start: u64, end: u64, here: u64, last: u64) -> bool
-    ensures { result ≡ is_same (order (range start end) (range here last)) }
-{
-    (start == here) & (end == last)
 }
 
 impl Interval {
@@ -74,17 +21,11 @@ impl Interval {
     }
 
     // The range from `start` to `last`, `last` included.
-    pub fn from_inclusive(start: u64, last: u64) -> Included
-        ensures { included_of result ≡ range_to included start last }
+    pub fn from_inclusive(start: u64, last: u64) -> Option<Interval>
+        ensures { found_of result ≡ range_to included start last }
     {
-        if last == 18446744073709551615 {
-            Included::PastEnd
-        } else {
-            Included::Range(Interval {
-                start,
-                end: last + 1,
-            })
-        }
+        let end = last.checked_add(1)?;
+        Some(Interval { start, end })
     }
 
     // Whether the start is below the end.
@@ -94,51 +35,18 @@ impl Interval {
         self.start < self.end
     }
 
-    // How two ranges stand: by start, then by end.
-    pub fn cmp(self, other: Interval) -> Ordering
-        ensures { order_of result ≡ order (range_of self) (range_of other) }
-    {
-        if self.start < other.start {
-            return Ordering::Less;
-        }
-        if other.start < self.start {
-            return Ordering::Greater;
-        }
-        if self.end < other.end {
-            return Ordering::Less;
-        }
-        if other.end < self.end {
-            return Ordering::Greater;
-        }
-        Ordering::Equal
-    }
-
-    // Whether both numbers are equal.
-    pub fn eq(self, other: Interval) -> bool
-        ensures { result ≡ is_same (order (range_of self) (range_of other)) }
-    {
-        match self.cmp(other) {
-            Ordering::Less => false,
-            Ordering::Equal => true,
-            Ordering::Greater => false,
-        }
-    }
-
     // What two ranges share: from the larger start to the smaller end, where that is a range.
-    pub fn intersect(self, other: Interval) -> Shared
-        ensures { shared_of result ≡ intersect (range_of self) (range_of other) }
+    pub fn intersect(self, other: Interval) -> Option<Interval>
+        ensures { found_of result ≡ intersect (range_of self) (range_of other) }
     {
-        let start = larger(self.start, other.start);
-        let end = smaller(self.end, other.end);
+        let start = self.start.max(other.start);
+        let end = self.end.min(other.end);
         let both = Interval { start, end };
-        if both.is_valid() {
-            Shared::Some(both)
-        } else {
-            Shared::None
-        }
+        both.is_valid().then_some(both)
     }
 
-    // Whether two ranges overlap: each start is below each end.
+    // Whether two ranges overlap: each start is below each end. The larger start and the smaller end, compared, become branches,
+    // and the walk is slower.
     pub fn overlaps(self, other: Interval) -> bool
         ensures { result ≡ overlaps (range_of self) (range_of other) }
     {

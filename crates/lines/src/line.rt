@@ -1,127 +1,120 @@
-// A line of a list, taken in byte by byte: words 0 to 7 are its numbers, word 8 is its letter, and word 9 counts the
-// numbers.
-ghost use Rattle.std.specs.Prelude.{◌<◌};
+// A line of a list, taken in byte by byte.
+ghost use Rattle.std.specs.Prelude.{◌≡◌, ◌≢◌, ◌+◌, ◌-◌, ◌*◌, ◌<◌, ◌≤◌, ◌⊎◌};
+ghost use Rattle.std.specs.Prelude.{ℕ, min, List, [], ◌∷◌, ◌++◌, take, length, true, IsTrue, IsSome};
+ghost use Rattle.lines.specs.Lines.{Begun, Read, before_a_line};
 
-use crate::notes;
+use crate::kind::Kind;
+use std::marker::Model;
 
-// The words of a line.
-pub type Line = [u64; 10];
+// The most numbers that a line has.
+pub const MOST_NUMBERS: usize = 8;
 
-const LETTER: usize = 8;
+// What there is of a line so far: its letter, where it has begun, its numbers, and whether it is not as it should be.
+// The numbers are an array with their count, as memory is fixed.
+#[derive(Drop)]
+pub struct Line {
+    letter: Option<u8>,
+    numbers: [u64; MOST_NUMBERS],
+    count: usize,
+    spoilt: bool,
+}
 
-const NUMBERS: usize = 9;
+impl Model for Line {
+    ghost Value = { Begun };
 
-// The letter of a line that is not as it should be.
-const SPOILT: u64 = 255;
+    ghost view = { λ line. record { letter = line.letter; numbers = take line.count line.numbers; spoilt = line.spoilt } };
+
+    ghost invariant = { λ line. line.count ≤ 8 };
+}
 
 // A number with one more digit behind it. One that is too large becomes the largest.
 fn appended(n: u64, digit: u64) -> u64
     requires { digit < 10 }
+    ensures { result ≡ min (10 * n + digit) u64.MAX }
 {
-    if n > (u64::MAX - digit) / 10 {
-        return u64::MAX;
-    }
-    10 * n + digit
+    n.saturating_mul(10).saturating_add(digit)
 }
 
-// Takes in a digit of number i.
-fn take_digit(line: &mut Line, i: usize, byte: u8) {
-    if i < 8 {
-        if byte >= b'0' {
-            if byte <= b'9' {
-                line[i] = appended(line[i], (byte - b'0') as u64);
-                return;
-            }
+impl Line {
+    // A line of which nothing has come.
+    pub fn new() -> Line
+        ensures { result ≡ before_a_line }
+    {
+        Line {
+            letter: None,
+            numbers: [0; MOST_NUMBERS],
+            count: 0,
+            spoilt: false,
         }
     }
-    line[LETTER] = SPOILT;
-}
 
-// Begins number i.
-fn take_space(line: &mut Line, i: u64) {
-    if i < 8 {
-        line[i as usize] = 0;
-        line[NUMBERS] = i + 1;
-    } else {
-        line[LETTER] = SPOILT;
+    // Takes in a byte of the line: its letter first, then a space before each number and digits. A byte 0 is no letter.
+    pub fn take(&mut self, byte: u8)
+        ensures letter { self.old.letter ≡ None → byte ≢ 0 → self.new ≡ record self.old { letter = Some byte } }
+        ensures space { IsSome self.old.letter → byte ≡ 32 → length self.old.numbers < 8
+            → self.new ≡ record self.old { numbers = self.old.numbers ++ 0 ∷ [] } }
+        ensures digit { (front : List ℕ) (last : ℕ) → self.old.numbers ≡ front ++ last ∷ [] → IsSome self.old.letter
+            → 48 ≤ byte → byte ≤ 57
+            → self.new ≡ record self.old { numbers = front ++ min (10 * last + (byte - 48)) u64.MAX ∷ [] } }
+        ensures other { IsSome self.old.letter → byte ≢ 32 → (byte < 48) ⊎ (57 < byte) → IsTrue self.new.spoilt }
+        ensures spoilt { IsTrue self.old.spoilt → IsTrue self.new.spoilt }
+    {
+        if self.letter.is_none() {
+            self.letter = Some(byte).filter(|letter| *letter != 0);
+        } else if byte == b' ' {
+            self.take_space();
+        } else {
+            self.take_digit(byte);
+        }
     }
-}
 
-// Takes in a byte of the line: its letter first, then a space before each number and digits.
-pub fn take(line: &mut Line, byte: u8) {
-    let letter = line[LETTER];
-    let count = line[NUMBERS];
-    if letter == 0 {
-        line[LETTER] = byte as u64;
-    } else if byte == b' ' {
-        take_space(line, count);
-    } else if count > 0 {
-        take_digit(line, (count - 1) as usize, byte);
-    } else {
-        line[LETTER] = SPOILT;
+    // Begins a number.
+    fn take_space(&mut self)
+        ensures begun { length self.old.numbers < 8 → self.new ≡ record self.old { numbers = self.old.numbers ++ 0 ∷ [] } }
+        ensures full { 8 ≤ length self.old.numbers → self.new ≡ record self.old { spoilt = true } }
+    {
+        if self.count < MOST_NUMBERS {
+            self.numbers[self.count] = 0;
+            self.count += 1;
+        } else {
+            self.spoilt = true;
+        }
     }
-}
 
-// Begins a line.
-pub fn clear(line: &mut Line) {
-    line[LETTER] = 0;
-    line[NUMBERS] = 0;
-}
-
-// How many numbers a line with this letter has: no line has 9.
-fn numbers(letter: u8) -> u64 {
-    match letter {
-        b'z' => 0,
-        b'f' | b's' => 1,
-        b'c' => 2,
-        b'm' | b'x' | b'q' | b'p' | b'r' => 3,
-        b'd' | b'e' => 5,
-        b'i' | b'j' => 6,
-        b'n' => 8,
-        _ => 9,
+    // Takes in a digit of the latest number.
+    fn take_digit(&mut self, byte: u8)
+        ensures digit { (front : List ℕ) (last : ℕ) → self.old.numbers ≡ front ++ last ∷ [] → 48 ≤ byte → byte ≤ 57
+            → self.new ≡ record self.old { numbers = front ++ min (10 * last + (byte - 48)) u64.MAX ∷ [] } }
+        ensures other { (byte < 48) ⊎ (57 < byte) → self.new ≡ record self.old { spoilt = true } }
+        ensures spoilt { IsTrue self.old.spoilt → IsTrue self.new.spoilt }
+    {
+        if self.count > 0 && byte.is_ascii_digit() {
+            let latest = self.count - 1;
+            self.numbers[latest] = appended(self.numbers[latest], u64::from(byte - b'0'));
+        } else {
+            self.spoilt = true;
+        }
     }
-}
 
-// The line's letter, or 0 where it is of no known kind or has more or fewer numbers than it should.
-pub fn letter(line: &Line) -> u8 {
-    let word = line[LETTER];
-    if word > 255 {
-        return 0;
+    // The line's kind, if its letter is that of one and it has as many numbers as that kind should.
+    pub fn kind(&self) -> Option<Kind>
+        ensures { Read self.now result }
+    {
+        if self.spoilt {
+            return None;
+        }
+        let kind = Kind::from_letter(self.letter?)?;
+        if kind.numbers() == self.count {
+            Some(kind)
+        } else {
+            None
+        }
     }
-    let letter = word as u8;
-    if line[NUMBERS] != numbers(letter) {
-        return 0;
-    }
-    letter
-}
 
-// The flag of an included end, by the letter: 1 where the end of the line's range is included.
-pub fn included(letter: u8) -> u8 {
-    match letter {
-        b'j' | b'e' | b'p' => 1,
-        _ => 0,
-    }
-}
-
-// Where lines with this letter are counted.
-pub fn counter(letter: u8) -> usize
-    ensures { result < 15 }
-{
-    match letter {
-        b'f' => notes::POOLS,
-        b'i' => notes::INSERTS,
-        b'j' => notes::INSERTS_INCLUDED,
-        b'd' => notes::DELETES,
-        b'e' => notes::DELETES_INCLUDED,
-        b'm' => notes::DELETES_MIN,
-        b'x' => notes::DELETES_MAX,
-        b'c' => notes::CLEARS,
-        b'q' => notes::QUERIES,
-        b'p' => notes::QUERIES_INCLUDED,
-        b'r' => notes::ROWS,
-        b's' => notes::TREES,
-        b'n' => notes::NODES,
-        b'z' => notes::ENDS,
-        _ => notes::UNKNOWN,
+    // The line's numbers, of which as many count as its kind has.
+    pub fn numbers(&self) -> [u64; MOST_NUMBERS]
+        ensures { take (length self.now.numbers) result ≡ self.now.numbers }
+    {
+        self.numbers
     }
 }

@@ -1,165 +1,103 @@
-// What is noted from line to line, in 64 words: how many lines of each kind there were, how many numbers were compared
-// and how many differ, the latest query, and where its rows and the nodes of a tree stand.
-ghost use Rattle.std.specs.Prelude.{◌≤◌, ◌<◌, length};
+// What is noted from line to line.
+ghost use Rattle.std.specs.Prelude.{◌≡◌, ◌≢◌, ◌+◌, ◌*◌, ◌/◌, ◌<◌, ◌≤◌, ◌⊎◌, ◌++◌, [], ◌∷◌, length, slice_range, false};
+ghost use Rattle.lines.specs.Counting.{nothing, one_difference, with_compared, differing_words, more};
+ghost use Rattle.lines.specs.Noted.{with_node, after_row};
 
-// The words.
-pub type Notes = [u64; 64];
+use crate::counts::Counts;
+use crate::pending::Pending;
 
-// The lines of each kind.
-pub const POOLS: usize = 0;
-
-pub const INSERTS: usize = 1;
-
-pub const INSERTS_INCLUDED: usize = 2;
-
-pub const DELETES: usize = 3;
-
-pub const DELETES_INCLUDED: usize = 4;
-
-pub const DELETES_MIN: usize = 5;
-
-pub const DELETES_MAX: usize = 6;
-
-pub const CLEARS: usize = 7;
-
-pub const QUERIES: usize = 8;
-
-pub const QUERIES_INCLUDED: usize = 9;
-
-pub const ROWS: usize = 10;
-
-pub const TREES: usize = 11;
-
-pub const NODES: usize = 12;
-
-pub const ENDS: usize = 13;
-
-pub const UNKNOWN: usize = 14;
-
-// The numbers that were compared, and those that differ.
-pub const COMPARED: usize = 15;
-
-pub const DIFFERENCES: usize = 16;
-
-// How many words of the room are the pool.
-pub const WORDS: usize = 17;
-
-// The rows of the latest query, and how many of them were compared.
-pub const ROWS_DUE: usize = 18;
-
-pub const ROWS_DONE: usize = 19;
-
-// How many nodes of a tree are pending, and where the first of them is noted.
-pub const PENDING: usize = 20;
-
-pub const FIRST_PENDING: usize = 32;
-
-// The latest query: where it starts and ends, and whether its end is included.
-pub const START: usize = 21;
-
-pub const END: usize = 22;
-
-pub const INCLUDED: usize = 23;
-
-// One more of what is counted.
-pub fn count(notes: &mut Notes, what: usize)
-    requires { what < 64 }
-{
-    let n = notes[what];
-    if n < u64::MAX {
-        notes[what] = n + 1;
-    }
+// A query: where its range starts and ends, and whether its end is included.
+#[derive(Clone, Copy)]
+pub struct Query {
+    pub start: u64,
+    pub end: u64,
+    pub included: bool,
 }
 
-// Compares what an entry told with what is recorded.
-pub fn compare(notes: &mut Notes, told: u64, recorded: u64) {
-    count(notes, COMPARED);
-    if told != recorded {
-        count(notes, DIFFERENCES);
-    }
+// What is counted, how many words of the room are the pool, the latest query, how many rows it has and how many of them
+// were compared, and the nodes of a tree that are still to be compared.
+#[derive(Drop)]
+pub struct Notes {
+    pub counts: Counts,
+    pub words: usize,
+    pub query: Query,
+    pub rows_due: u64,
+    pub rows_done: u64,
+    pub pending: Pending,
 }
 
-// Compares words that were told with those that are recorded.
-pub fn compare_words(notes: &mut Notes, told: &[u64], recorded: &[u64])
-    requires { length told.now ≤ length recorded.now }
-{
-    let mut i = 0;
-    while i < told.len() {
-        compare(notes, told[i], recorded[i]);
-        i += 1;
+impl Notes {
+    // Before the first line.
+    pub fn new() -> Notes
+        ensures counts { result.counts ≡ nothing }
+        ensures words { result.words ≡ 0 }
+        ensures query { result.query ≡ record { start = 0; end = 0; included = false } }
+        ensures rows { (result.rows_due ≡ 0) × (result.rows_done ≡ 0) }
+        ensures pending { result.pending ≡ [] }
+    {
+        Notes {
+            counts: Counts::new(),
+            words: 0,
+            query: Query {
+                start: 0,
+                end: 0,
+                included: false,
+            },
+            rows_due: 0,
+            rows_done: 0,
+            pending: Pending::new(),
+        }
     }
-}
 
-// Compares the row after so many others with what is recorded of it. One that is not in the words is a difference.
-pub fn compare_row(notes: &mut Notes, rows: &[u64], done: usize, recorded: &[u64])
-    requires { 3 ≤ length recorded.now }
-{
-    if done < rows.len() / 3 {
-        let at = 3 * done;
-        compare_words(notes, &rows[at..at + 3], recorded);
-    } else {
-        count(notes, DIFFERENCES);
+    // How many words of a room of so many are the pool: none where the room has fewer.
+    pub fn in_use(&self, room: usize) -> usize
+        ensures within { result ≤ room }
+        ensures all { self.now.words ≤ room → result ≡ self.now.words }
+    {
+        let n = self.words;
+        if n > room {
+            return 0;
+        }
+        n
     }
-}
 
-// Notes a number.
-pub fn put(notes: &mut Notes, what: usize, n: u64)
-    requires { what < 64 }
-{
-    notes[what] = n;
-}
-
-// How many words of a room of so many are the pool: none where the room has fewer.
-pub fn in_use(notes: &Notes, room: usize) -> usize
-    ensures { result ≤ room }
-{
-    let n = notes[WORDS] as usize;
-    if n > room {
-        return 0;
+    // Compares the next row with what is recorded of it, and goes on behind it. One that is not in the words is a
+    // difference.
+    pub fn compare_row(&mut self, rows: &[u64], recorded: &[u64])
+        requires { 3 ≤ length recorded.now }
+        ensures { self.new ≡ after_row rows.now recorded.now self.old }
+    {
+        let done = self.rows_done as usize;
+        self.rows_done = self.rows_done.saturating_add(1);
+        if done < rows.len() / 3 {
+            let at = 3 * done;
+            self.counts.compare(&rows[at..at + 3], recorded);
+        } else {
+            self.counts.differ();
+        }
     }
-    n
-}
 
-// One more node is pending, where there is one. A tree so high that there is no room for it is a difference.
-pub fn push(notes: &mut Notes, slot: u64) {
-    let pending = notes[PENDING];
-    if slot == 0 {
-        return;
+    // One more node is pending, where there is one. A tree so high that there is no room for it is a difference.
+    pub fn push(&mut self, slot: u64)
+        ensures { self.new ≡ with_node slot self.old }
+    {
+        if slot != 0 && self.pending.push(slot).is_err() {
+            self.counts.differ();
+        }
     }
-    if pending < 32 {
-        notes[FIRST_PENDING + pending as usize] = slot;
-        notes[PENDING] = pending + 1;
-    } else {
-        count(notes, DIFFERENCES);
-    }
-}
 
-// Takes the latest pending node, 0 where none is.
-pub fn pop(notes: &mut Notes) -> u64 {
-    let pending = notes[PENDING];
-    if pending == 0 {
-        return 0;
-    }
-    if pending > 32 {
-        return 0;
-    }
-    let left = pending - 1;
-    put(notes, PENDING, left);
-    notes[FIRST_PENDING + left as usize]
-}
-
-// Whether all rows and nodes that were due have been compared.
-fn is_settled(notes: &Notes) -> bool {
-    notes[ROWS_DONE] == notes[ROWS_DUE] && notes[PENDING] == 0
-}
-
-// Before a line that is neither a row nor a node: what is due and was not compared is a difference.
-pub fn settle(notes: &mut Notes) {
-    let settled = is_settled(notes);
-    put(notes, ROWS_DUE, 0);
-    put(notes, ROWS_DONE, 0);
-    put(notes, PENDING, 0);
-    if !settled {
-        count(notes, DIFFERENCES);
+    // Before a line that is neither a row nor a node: what is due and was not compared is a difference.
+    pub fn settle(&mut self)
+        ensures settled { self.new ≡ record self.old { counts = self.new.counts; rows_due = 0; rows_done = 0; pending = [] } }
+        ensures even { self.old.rows_done ≡ self.old.rows_due → self.old.pending ≡ [] → self.new.counts ≡ self.old.counts }
+        ensures rows { self.old.rows_done ≢ self.old.rows_due → self.new.counts ≡ one_difference self.old.counts }
+        ensures nodes { self.old.pending ≢ [] → self.new.counts ≡ one_difference self.old.counts }
+    {
+        if self.rows_done != self.rows_due || !self.pending.is_empty() {
+            self.counts.differ();
+        }
+        self.rows_due = 0;
+        self.rows_done = 0;
+        self.pending = Pending::new();
     }
 }

@@ -2,89 +2,115 @@
 // compared. compare/recorded/README.md has the list's format.
 #![tactic(auto)]
 
+ghost use Rattle.std.specs.Prelude.{◌≡◌, ◌≢◌, ◌<◌, ℕ, length, slice_index};
+ghost use Rattle.lines.specs.Lines.{before_a_line};
+ghost use Rattle.lines.specs.Counting.{nothing};
+
 mod by_records;
 mod edits;
 mod queries;
 mod shapes;
 
-use lines::{line, notes};
+use lines::kind::Kind;
+use lines::line::Line;
+use lines::notes::{Notes, Query};
 use rules::{HEADER_WORDS, MOST_SLOTS, SLOT_WORDS};
 
-// How many words a pool of so many slots has: none where there is no such pool.
-fn pool_words(slots: u64) -> u64 {
+// A run of the list: the room that its pools are made in, the room for a query's rows, the line that is being taken in,
+// and what is noted of those before.
+#[derive(Drop)]
+pub struct Listing<'a> {
+    room: &'a mut [u64],
+    rows: &'a mut [u64],
+    line: Line,
+    pub notes: Notes,
+}
+
+// How many words a pool of so many slots has: none where there is no such pool, and so nothing is lent.
+fn pool_words(slots: u64) -> usize {
     if slots > MOST_SLOTS as u64 {
         return 0;
     }
-    (HEADER_WORDS + SLOT_WORDS * slots as usize) as u64
-}
-
-// Obeys a line on the pool.
-fn obey(
-    pool: &mut [u64],
-    rows: &mut [u64],
-    letter: u8,
-    line: &line::Line,
-    notes: &mut notes::Notes,
-) {
-    match letter {
-        b'q' | b'p' => queries::query(pool, rows, line, notes, line::included(letter)),
-        b'r' => queries::row(pool, rows, line, notes),
-        b's' => shapes::tree(pool, line, notes),
-        b'n' => shapes::node(pool, line, notes),
-        b'z' | 0 => {}
-        _ => edits::edit(pool, letter, line, notes),
-    }
+    HEADER_WORDS + SLOT_WORDS * slots as usize
 }
 
 // Notes a line before it is obeyed: what is due ends with any line but a row or a node, and a fresh pool has words of its
 // own.
-fn note(letter: u8, line: &line::Line, notes: &mut notes::Notes) {
-    notes::count(notes, line::counter(letter));
-    match letter {
-        b'r' | b'n' => {}
-        b'f' => {
-            notes::settle(notes);
-            notes::put(notes, notes::WORDS, pool_words(line[0]));
+fn note(kind: Option<Kind>, line: &Line, notes: &mut Notes) {
+    notes.counts.count(kind);
+    match kind {
+        Some(Kind::Row | Kind::Node) => {}
+        Some(Kind::Pool) => {
+            notes.settle();
+            notes.words = pool_words(line.numbers()[0]);
         }
-        _ => notes::settle(notes),
+        _ => notes.settle(),
     }
 }
 
-// Obeys a line on the pool in the room.
-fn take_line(room: &mut [u64], rows: &mut [u64], line: &line::Line, notes: &mut notes::Notes) {
-    let letter = line::letter(line);
-    note(letter, line, notes);
-    let n = notes::in_use(notes, room.len());
-    obey(&mut room[0..n], rows, letter, line, notes);
-}
-
-// Takes in a byte, and obeys the line at its end.
-fn take_byte(
-    byte: u8,
-    room: &mut [u64],
-    rows: &mut [u64],
-    line: &mut line::Line,
-    notes: &mut notes::Notes,
-) {
-    if byte == b'\n' {
-        take_line(room, rows, line, notes);
-        line::clear(line);
-    } else {
-        line::take(line, byte);
+impl<'a> Listing<'a> {
+    // Before the list.
+    pub fn new(room: &'a mut [u64], rows: &'a mut [u64]) -> Listing<'a>
+        ensures line { result.line ≡ before_a_line }
+        ensures counts { result.notes.counts ≡ nothing }
+    {
+        Listing {
+            room,
+            rows,
+            line: Line::new(),
+            notes: Notes::new(),
+        }
     }
-}
 
-// Takes in bytes of the list, from where those before left off. At its start all words of `line` and `notes` are 0.
-pub fn take(
-    bytes: &[u8],
-    room: &mut [u64],
-    rows: &mut [u64],
-    line: &mut line::Line,
-    notes: &mut notes::Notes,
-) {
-    let mut i = 0;
-    while i < bytes.len() {
-        take_byte(bytes[i], room, rows, line, notes);
-        i += 1;
+    // Obeys a line of a kind on the pool in the room.
+    fn obey(&mut self, kind: Kind) {
+        let words = self.notes.in_use(self.room.len());
+        let room = &mut *self.room;
+        let rows = &mut *self.rows;
+        let pool = &mut room[..words];
+        let numbers = self.line.numbers();
+        let [first, second, third, ..] = numbers;
+        let notes = &mut self.notes;
+        match kind {
+            Kind::Query | Kind::QueryIncluded => {
+                let query = Query {
+                    start: first,
+                    end: second,
+                    included: kind.is_included(),
+                };
+                queries::query(pool, rows, query, third, notes);
+            }
+            Kind::Row => queries::row(pool, rows, [first, second, third], notes),
+            Kind::Tree => shapes::tree(pool, first, notes),
+            Kind::Node => shapes::node(pool, numbers, notes),
+            Kind::End => {}
+            _ => edits::edit(pool, kind, numbers, &mut notes.counts),
+        }
+    }
+
+    // Takes in a byte. At the line's end, the line is noted and obeyed.
+    fn take_byte(&mut self, byte: u8)
+        ensures within { byte ≢ 10 → self.new.notes ≡ self.old.notes }
+        ensures ended { byte ≡ 10 → self.new.line ≡ before_a_line }
+    {
+        if byte != b'\n' {
+            self.line.take(byte);
+            return;
+        }
+        let kind = self.line.kind();
+        note(kind, &self.line, &mut self.notes);
+        if let Some(kind) = kind {
+            self.obey(kind);
+        }
+        self.line = Line::new();
+    }
+
+    // Takes in bytes of the list, from where those before left off.
+    pub fn take(&mut self, bytes: &[u8])
+        ensures within { ((k : ℕ) → k < length bytes.now → slice_index bytes.now k ≢ 10) → self.new.notes ≡ self.old.notes }
+    {
+        for byte in bytes {
+            self.take_byte(*byte);
+        }
     }
 }

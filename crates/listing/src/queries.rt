@@ -1,50 +1,44 @@
 // The lines of a query: it is asked by words and by records, its hits are counted, and then they are compared row by row
 // in both forms.
-use crate::by_records;
-use lines::{line, notes};
+ghost use Rattle.std.specs.Prelude.{◌≡◌, []};
+ghost use Rattle.hindraloha.specs.Entries.{queried};
+ghost use Rattle.listing.specs.Queries.{asked, after_query, RowNoted};
 
-// Notes a query for its rows, and that so many are due.
-fn note(line: &line::Line, notes: &mut notes::Notes, included: u8) {
-    notes[notes::START] = line[0];
-    notes[notes::END] = line[1];
-    notes[notes::INCLUDED] = included as u64;
-    notes[notes::ROWS_DUE] = line[2];
+use crate::by_records;
+use hindraloha::{Hits, hindraloha_query};
+use lines::notes::{Notes, Query};
+
+// Asks a query by words.
+fn ask(pool: &[u64], query: Query, rows: &mut [u64]) -> Hits
+    ensures { queried result rows.new ≡ asked query pool.now rows.old }
+{
+    let included = u8::from(query.included);
+    hindraloha_query(pool, query.start, query.end, included, rows)
 }
 
 // Asks a query in both forms, and compares the number of its hits: no form is refused, and each has so many.
-pub fn query(
-    pool: &[u64],
-    rows: &mut [u64],
-    line: &line::Line,
-    notes: &mut notes::Notes,
-    included: u8,
-) {
-    let words = hindraloha::hindraloha_query(pool, line[0], line[1], included, rows);
-    let records = by_records::ask(pool, line[0], line[1], included, 0);
+pub fn query(pool: &[u64], rows: &mut [u64], query: Query, due: u64, notes: &mut Notes)
+    ensures rows { rows.new ≡ (asked query pool.now rows.old).run }
+    ensures notes { notes.new ≡ after_query query due (asked query pool.now rows.old) (asked query pool.now []) notes.old }
+{
+    let words = ask(pool, query, rows);
+    let records = by_records::hits(pool, query);
     let told = [
         words.number,
         words.hits as u64,
         records.number,
-        records.hits,
+        records.hits as u64,
     ];
-    let due = [0, line[2], 0, line[2]];
-    notes::compare_words(notes, &told, &due);
-    note(line, notes, included);
+    notes.counts.compare(&told, &[0, due, 0, due]);
+    notes.query = query;
+    notes.rows_due = due;
 }
 
-// The record numbered i of the latest query, which is asked anew.
-fn record(pool: &[u64], notes: &notes::Notes, i: usize) -> [u64; 3] {
-    let included = (notes[notes::INCLUDED] != 0) as u8;
-    let told = by_records::ask(pool, notes[notes::START], notes[notes::END], included, i);
-    let row = told.row;
-    [row.start, row.end, row.value]
-}
-
-// Compares the next row in both forms.
-pub fn row(pool: &[u64], rows: &[u64], line: &line::Line, notes: &mut notes::Notes) {
-    let done = notes[notes::ROWS_DONE] as usize;
-    let record = record(pool, notes, done);
-    notes::count(notes, notes::ROWS_DONE);
-    notes::compare_row(notes, rows, done, line);
-    notes::compare_words(notes, &record, line);
+// Compares the next row in both forms. For that of records, the query is asked anew.
+pub fn row(pool: &[u64], rows: &[u64], recorded: [u64; 3], notes: &mut Notes)
+    ensures { RowNoted pool.now rows.now recorded notes.old notes.new }
+{
+    let told = by_records::row(pool, notes.query, notes.rows_done as usize);
+    notes.compare_row(rows, &recorded);
+    notes.counts.compare(&told, &recorded);
 }

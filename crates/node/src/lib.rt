@@ -1,4 +1,5 @@
-// node.rs of the crate: a node's words in its slot. The slots are lent as the words after the header.
+// node.rs of the crate: a node's words in its slot. The slots are lent as the words after the header, and are numbered from
+// 1: 0 stands for none in the words of a pool, so it does in every number of a slot.
 #![tactic(auto)]
 
 ghost use Rattle.std.specs.Prelude.{◌≡◌, ◌+◌, ◌*◌, ◌%◌, ◌/◌, ◌≤◌, ◌<◌, max, length};
@@ -12,7 +13,21 @@ ghost use Rattle.node.specs.Node.{levels_at, size_at, below, max_at, factor, wit
 use interval::Interval;
 use rules::SLOT_WORDS;
 
-// Word i of slot k.
+// The words of a slot, in their order.
+pub const START: usize = 0;
+
+pub const END: usize = 1;
+
+pub const VALUE: usize = 2;
+
+pub const MAX: usize = 3;
+
+pub const LINKS: usize = 4;
+
+pub const SHAPE: usize = 5;
+
+// Word i of slot k. A rotation writes to three slots of one lent run, so no value that holds the run can stand for a slot,
+// and each function says for itself that its slot is one of the run.
 pub fn word(slots: &[u64], k: u64, i: usize) -> u64
     requires { Within slots.now k × (i < slot_words) }
     ensures { result ≡ slot_word slots.now k i }
@@ -25,8 +40,8 @@ pub fn interval_at(slots: &[u64], k: u64) -> Interval
     requires { Within slots.now k }
     ensures { range_of result ≡ range (slot_word slots.now k 0) (slot_word slots.now k 1) }
 {
-    let start = word(slots, k, 0);
-    let end = word(slots, k, 1);
+    let start = word(slots, k, START);
+    let end = word(slots, k, END);
     Interval { start, end }
 }
 
@@ -71,7 +86,7 @@ pub fn height(slots: &[u64], s: u64) -> u64
     if s == 0 {
         0
     } else {
-        low(word(slots, s, 5)) + 1
+        low(word(slots, s, SHAPE)) + 1
     }
 }
 
@@ -80,7 +95,11 @@ pub fn size(slots: &[u64], s: u64) -> u64
     requires { slot_words * s ≤ length slots.now }
     ensures { result ≡ size_at slots.now s }
 {
-    if s == 0 { 0 } else { high(word(slots, s, 5)) }
+    if s == 0 {
+        0
+    } else {
+        high(word(slots, s, SHAPE))
+    }
 }
 
 // The largest end of what is in slot s, 0 for none.
@@ -88,10 +107,10 @@ fn max_end(slots: &[u64], s: u64) -> u64
     requires { slot_words * s ≤ length slots.now }
     ensures { result ≡ max_at slots.now s }
 {
-    if s == 0 { 0 } else { word(slots, s, 3) }
+    if s == 0 { 0 } else { word(slots, s, MAX) }
 }
 
-// Where a factor lies, as far as `balance` asks.
+// Where a factor lies, as far as `balance` asks. The library's three cases of an order would call -1 and 1 equal.
 #[derive(Clone, Copy)]
 pub enum Factor {
     BelowMinusOne,
@@ -118,10 +137,7 @@ pub fn update_max(slots: &[u64], k: u64, l: u64, r: u64) -> u64
     requires { Within slots.now k × (slot_words * l ≤ length slots.now) × (slot_words * r ≤ length slots.now) }
     ensures { result ≡ max (slot_word slots.now k 1) (max (max_at slots.now l) (max_at slots.now r)) }
 {
-    interval::larger(
-        word(slots, k, 1),
-        interval::larger(max_end(slots, l), max_end(slots, r)),
-    )
+    word(slots, k, END).max(max_end(slots, l).max(max_end(slots, r)))
 }
 
 // What a parent takes over of the child in slot s: one more than its height, and its size, as halves of a word; 0 for
@@ -130,7 +146,7 @@ pub fn shape_below(slots: &[u64], s: u64) -> u64
     requires { (slot_words * s ≤ length slots.now) × (levels_at slots.now s < half) }
     ensures { result ≡ below slots.now s }
 {
-    if s == 0 { 0 } else { word(slots, s, 5) + 1 }
+    if s == 0 { 0 } else { word(slots, s, SHAPE) + 1 }
 }
 
 // The shape over two children, by what is taken over of each: one more than the larger height, one more than both sizes.
@@ -138,7 +154,7 @@ fn update_shape(left: u64, right: u64) -> u64
     requires { left / half + right / half + 1 < half }
     ensures { result ≡ max (left % half) (right % half) + half * (left / half + right / half + 1) }
 {
-    let height = interval::larger(low(left), low(right));
+    let height = low(left).max(low(right));
     let size = high(left) + high(right) + 1;
     pack(height, size)
 }
@@ -150,7 +166,7 @@ pub fn update_over(slots: &mut [u64], k: u64, l: u64, r: u64, left: u64, right: 
 {
     let max = update_max(slots, k, l, r);
     let shape = update_shape(left, right);
-    set_words(slots, k, 3, max, pack(l, r), shape);
+    set_words(slots, k, MAX, max, pack(l, r), shape);
 }
 
 // Makes l and r the children of the entry in slot k, and its height, size and max exact.
@@ -163,11 +179,11 @@ pub fn update(slots: &mut [u64], k: u64, l: u64, r: u64)
     update_over(slots, k, l, r, left, right);
 }
 
-// Makes slot k a node of its own: the range start..end with its value and no children.
-pub fn new(slots: &mut [u64], k: u64, start: u64, end: u64, value: u64)
+// Makes slot k a node of its own: the range with its value and no children.
+pub fn new(slots: &mut [u64], k: u64, range: Interval, value: u64)
     requires { Slot slots.old k }
-    ensures { Left slots.old slots.new k (node (entry k start end value) leaf leaf) }
+    ensures { Left slots.old slots.new k (node (entry k range.start range.end value) leaf leaf) }
 {
-    set_words(slots, k, 0, start, end, value);
+    set_words(slots, k, START, range.start, range.end, value);
     update(slots, k, 0, 0);
 }

@@ -1,4 +1,5 @@
-// What is added around the slots: the lengths of a pool, its header, formatting, and the free chain's first slot.
+// What is added around the slots: the lengths of a pool, its header, formatting, and the free chain's first slot. The words
+// are lent as they are: a struct that held them would have to promise in each contract that it keeps its reference.
 #![tactic(auto)]
 
 ghost use Rattle.std.specs.Prelude.{true, ◌≡◌, ◌+◌, ◌*◌, ◌/◌, ◌≤◌, ◌<◌, length, get_or, drop};
@@ -8,6 +9,7 @@ ghost use Rattle.rules.specs.Pool as pool;
 ghost use Rattle.rules.specs.Stored.{Within, Chained};
 ghost use Rattle.pool.specs.Around.{with_slot, with_header, Released, Claimed};
 
+use node::{MAX, START};
 use rules::{HEADER_WORDS, MOST_SLOTS, SLOT_WORDS};
 
 // Whether a run of n words is a pool's: its header and from 1 to the most slots.
@@ -60,20 +62,19 @@ fn free_slot(slots: &mut [u64], s: u64, next: u64)
     requires { Within slots.old s }
     ensures { slots.new ≡ with_slot slots.old s (pool.slot_of leaf next) }
 {
-    node::set_words(slots, s, 0, 0, 0, 0);
-    node::set_words(slots, s, 3, 0, next, 0);
+    node::set_words(slots, s, START, 0, 0, 0);
+    node::set_words(slots, s, MAX, 0, next, 0);
 }
 
 // Links all slots as free, from 1 on.
 fn link_slots(slots: &mut [u64])
     ensures { Chained slots.new (pool.count_up (length slots.old / slot_words) 1) }
 {
+    let count = (slots.len() / SLOT_WORDS) as u64;
     let mut next = 0;
-    let mut s = (slots.len() / SLOT_WORDS) as u64;
-    while 0 < s {
+    for s in (1..=count).rev() {
         free_slot(slots, s, next);
         next = s;
-        s -= 1;
     }
 }
 

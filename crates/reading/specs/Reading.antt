@@ -1,52 +1,67 @@
--- How the code's enums stand for what reading a record finds, and what a row of the table of kinds says of a body.
-use Rattle.std.specs.Prelude.{ℕ, ◌≤◌, List, length, get_or}
+-- How the code's kinds stand for the rows of the table, and what reading a record answers for what is found.
+use Rattle.std.specs.Prelude.{ℕ, List, ◌≡◌, Result, Ok, Err, get_or}
 use Rattle.std.proofs.Math.Option.{Option, none, some}
-use Rattle.rules.specs.Range.{excluded}
-use Rattle.rules.specs.Request.{Request, deleting, querying}
+use Rattle.rules.specs.Range.{excluded, included}
+use Rattle.rules.specs.Balance.{left, right}
+use Rattle.rules.specs.Request.{Request, deleting, deleting_end, clearing, querying}
 use Rattle.rules.specs.Record as found
-use Rattle.rules.specs.Record.{Kind, kinds, feed_kinds, whole, unknown, cut_short}
+use Rattle.rules.specs.Record.{metre, link, insert_by, insert_exact, with_pair, bare, kinds, whole, unknown, cut_short}
 use Rattle.request.specs.Requests.{request_of}
-use Rattle.reading.specs.declared.Reading.{Reading}
-use Rattle.reading.specs.declared.Reading.TheVariants.{Whole, Unknown, CutShort}
-use Rattle.reading.specs.declared.Body.{Body}
-use Rattle.reading.specs.declared.Body.TheVariants as body
-use Rattle.reading.specs.declared.Pair.{Pair}
-use Rattle.reading.specs.declared.Pair.TheVariants as pair
+use Rattle.request.specs.declared.Refusal.{Refusal}
+use Rattle.request.specs.declared.Refusal.TheVariants.{WrongLength, Unsound, PastEnd, Full, UnknownKind, CutShort}
+use Rattle.reading.specs.declared.Kind.{Kind}
+use Rattle.reading.specs.declared.Kind.TheVariants.{InsertMetres, InsertLinks, InsertExcluded, InsertIncluded, Delete, DeleteMin, DeleteMax, Clear, Query}
+use Rattle.reading.specs.declared.Record.{Record}
 
--- a whole record with the bytes that it takes, 14 and 15
-abbrev pub reading_of : Reading → found.Reading
-reading_of (Whole q n) = whole (request_of q) n
-reading_of Unknown = unknown
-reading_of CutShort = cut_short
+-- the row of a kind of the code
+abbrev pub row_of : Kind → found.Kind
+row_of InsertMetres = insert_by metre
+row_of InsertLinks = insert_by link
+row_of InsertExcluded = insert_exact excluded
+row_of InsertIncluded = insert_exact included
+row_of Delete = with_pair (deleting excluded)
+row_of DeleteMin = bare (deleting_end left)
+row_of DeleteMax = bare (deleting_end right)
+row_of Clear = bare clearing
+row_of Query = with_pair (querying excluded)
 
--- "5 | delete, micrometres | two u64", "9 | query, micrometres | two u64"
-abbrev pub ask_of : Pair → ℕ → ℕ → Request
-ask_of pair.Delete = deleting excluded
-ask_of pair.Query = querying excluded
-
--- the row of a kind, where the table has one
-abbrev pub row : ℕ → Option Kind
+-- the row of a number, where the table has one
+abbrev pub row : ℕ → Option found.Kind
 row kind = get_or kinds kind none
 
--- and where the table of a feed has one
-abbrev pub feed_row : ℕ → Option Kind
-feed_row kind = get_or feed_kinds kind none
-
--- "a body whose length the kind fixes": the answer, and what a row fixes
-abbrev pub length_of : Body → Option ℕ
-length_of (body.Length n) = some n
-length_of body.Unknown = none
-
-abbrev pub fixed_length : Option Kind → Option ℕ
+-- "a body whose length the kind fixes": what a row fixes
+abbrev pub fixed_length : Option found.Kind → Option ℕ
 fixed_length none = none
 fixed_length (some k) = some k.body_length
 
--- a row, and a body that has the bytes that it fixes
-abbrev pub Enough : Option Kind → List ℕ → Type 0
-Enough none body = ⊥
-Enough (some k) body = k.body_length ≤ length body
-
 -- what a row says that a body asks
-abbrev pub said : Option Kind → List ℕ → Option Request
+abbrev pub said : Option found.Kind → List ℕ → Option Request
 said none body = none
 said (some k) body = some (k.means body)
+
+-- the number of a kind of the code
+abbrev pub kind_number : Kind → ℕ
+kind_number InsertMetres = 1
+kind_number InsertLinks = 2
+kind_number InsertExcluded = 3
+kind_number InsertIncluded = 4
+kind_number Delete = 5
+kind_number DeleteMin = 6
+kind_number DeleteMax = 7
+kind_number Clear = 8
+kind_number Query = 9
+
+-- what a table has for a byte: the kind of that number and its row, or no row, and then the kind is unknown
+abbrev pub Finds : List (Option found.Kind) → ℕ → Result Kind Refusal → Type 0
+Finds table byte (Ok kind) = (byte ≡ kind_number kind) × (get_or table byte none ≡ some (row_of kind))
+Finds table byte (Err refusal) = (get_or table byte none ≡ none) × (refusal ≡ UnknownKind)
+
+-- a whole record with the bytes that it takes, 14 and 15; no other refusal stands for anything that is found
+abbrev pub reading_of : Result Record Refusal → Option found.Reading
+reading_of (Ok r) = some (whole (request_of r.request) r.taken)
+reading_of (Err UnknownKind) = some unknown
+reading_of (Err CutShort) = some cut_short
+reading_of (Err WrongLength) = none
+reading_of (Err Unsound) = none
+reading_of (Err PastEnd) = none
+reading_of (Err Full) = none

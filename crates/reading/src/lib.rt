@@ -1,50 +1,39 @@
 // Reading one survey record from any bytes: a byte of kind, then a body whose length the kind fixes.
 #![tactic(auto)]
 
-ghost use Rattle.std.specs.Prelude.{◌≡◌, ◌+◌, ◌≤◌, ◌<◌, length, get_or};
+ghost use Rattle.std.specs.Prelude.{◌≡◌, ◌+◌, ◌≤◌, ◌<◌, length};
 ghost use Rattle.std.proofs.Math.Option.{some};
-ghost use Rattle.rules.specs.Record.{metre, u32_at, u64_at, insert_by, insert_exact, with_pair};
-ghost use Rattle.rules.specs.Record.{kinds, reads_kind, reads};
+ghost use Rattle.rules.specs.Record.{metre, u32_at, u64_at, insert_by, insert_exact};
+ghost use Rattle.rules.specs.Record.{kinds, feed_kinds, reads_kind, reads};
 ghost use Rattle.request.specs.Requests.{end_of, request_of};
-ghost use Rattle.reading.specs.Reading.{reading_of, ask_of};
-ghost use Rattle.reading.specs.Reading.{row, feed_row, length_of, fixed_length, Enough, said};
+ghost use Rattle.reading.specs.Reading.{row_of, Finds, reading_of};
 
-use request::{End, Request};
+use request::{End, Refusal, Request, Stretch};
 
 // A metre and a link in micrometres.
 const METRE: u64 = 1_000_000;
 
 const LINK: u64 = 201_168;
 
-// What reading one record finds: what it asks and how many bytes it takes, a kind that is not in the table (14), or no
-// whole record (15).
-#[derive(Clone, Copy)]
-pub enum Reading {
-    Whole(Request, usize),
-    Unknown,
-    CutShort,
-}
-
-// The body of a kind: so many bytes, or the kind is not in the table.
-#[derive(Clone, Copy)]
-pub enum Body {
-    Length(usize),
-    Unknown,
-}
-
-// What a pair of ends asks.
-#[derive(Clone, Copy)]
-enum Pair {
+// The kinds of the table: an insert names its unit, or whether its end is included.
+#[derive(Clone, Copy, PartialEq, Eq)]
+pub enum Kind {
+    InsertMetres,
+    InsertLinks,
+    InsertExcluded,
+    InsertIncluded,
     Delete,
+    DeleteMin,
+    DeleteMax,
+    Clear,
     Query,
 }
 
-// Byte `at` of a body.
-fn byte_at(body: &[u8], at: usize) -> u64
-    requires { at < length body.now }
-    ensures { (result ≡ get_or body.now at 0) × (result < 256) }
-{
-    body[at] as u64
+// A record that was read: what it asks, and how many bytes it takes.
+#[derive(Clone, Copy)]
+pub struct Record {
+    pub request: Request,
+    pub taken: usize,
 }
 
 // The number in the four bytes from `at` on, the first the lowest.
@@ -52,9 +41,7 @@ fn u32_at(body: &[u8], at: usize) -> u64
     requires { at + 4 ≤ length body.now }
     ensures { (result ≡ u32_at at body.now) × (result < 4294967296) }
 {
-    byte_at(body, at)
-        + 256
-            * (byte_at(body, at + 1) + 256 * (byte_at(body, at + 2) + 256 * byte_at(body, at + 3)))
+    u64::from(u32::from_le_bytes(body[at..at + 4].try_into().unwrap()))
 }
 
 // The number in the eight bytes from `at` on, the first the lowest.
@@ -62,7 +49,7 @@ fn u64_at(body: &[u8], at: usize) -> u64
     requires { at + 8 ≤ length body.now }
     ensures { result ≡ u64_at at body.now }
 {
-    u32_at(body, at) + 4294967296 * u32_at(body, at + 4)
+    u64::from_le_bytes(body[at..at + 8].try_into().unwrap())
 }
 
 // An insert in units of `factor` micrometres: start and end are both multiplied.
@@ -74,10 +61,24 @@ fn insert_by(factor: u64, body: &[u8]) -> Request
     let end = factor * u32_at(body, 4);
     let value = u64_at(body, 8);
     Request::Insert {
-        bound: End::Excluded,
-        start,
-        end,
+        stretch: Stretch {
+            bound: End::Excluded,
+            start,
+            end,
+        },
         value,
+    }
+}
+
+// The range in micrometres that a body begins with.
+fn stretch(bound: End, body: &[u8]) -> Stretch
+    requires { 16 ≤ length body.now }
+    ensures { (result.bound ≡ bound) × (result.start ≡ u64_at 0 body.now) × (result.end ≡ u64_at 8 body.now) }
+{
+    Stretch {
+        bound,
+        start: u64_at(body, 0),
+        end: u64_at(body, 8),
     }
 }
 
@@ -86,101 +87,107 @@ fn insert_exact(bound: End, body: &[u8]) -> Request
     requires { 24 ≤ length body.now }
     ensures { request_of result ≡ (insert_exact (end_of bound)).means body.now }
 {
-    let start = u64_at(body, 0);
-    let end = u64_at(body, 8);
-    let value = u64_at(body, 16);
     Request::Insert {
-        bound,
-        start,
-        end,
-        value,
+        stretch: stretch(bound, body),
+        value: u64_at(body, 16),
     }
 }
 
-// A delete or a query in micrometres.
-fn with_pair(ask: Pair, body: &[u8]) -> Request
-    requires { 16 ≤ length body.now }
-    ensures { request_of result ≡ (with_pair (ask_of ask)).means body.now }
-{
-    let start = u64_at(body, 0);
-    let end = u64_at(body, 8);
-    match ask {
-        Pair::Delete => Request::Delete {
-            bound: End::Excluded,
-            start,
-            end,
-        },
-        Pair::Query => Request::Query {
-            bound: End::Excluded,
-            start,
-            end,
-        },
-    }
-}
+impl TryFrom<u8> for Kind {
+    type Error = Refusal;
 
-// How long the body of a kind is.
-pub fn body_length(kind: u8) -> Body
-    ensures { length_of result ≡ fixed_length (row kind) }
-{
-    match kind {
-        1 | 2 => Body::Length(16),
-        3 | 4 => Body::Length(24),
-        5 => Body::Length(16),
-        6 | 7 | 8 => Body::Length(0),
-        9 => Body::Length(16),
-        _ => Body::Unknown,
-    }
-}
+    ghost try_from_gives = { λ byte found. Finds kinds byte found };
 
-// How long the body of a kind is that a feed takes: a query is unknown there.
-pub fn body_length_in_feed(kind: u8) -> Body
-    ensures { length_of result ≡ fixed_length (feed_row kind) }
-{
-    if kind == 9 {
-        return Body::Unknown;
-    }
-    body_length(kind)
-}
-
-// What a body of a kind in the table asks.
-pub fn means(kind: u8, body: &[u8]) -> Request
-    requires { Enough (row kind) body.now }
-    ensures { said (row kind) body.now ≡ some (request_of result) }
-{
-    match kind {
-        1 => insert_by(METRE, body),
-        2 => insert_by(LINK, body),
-        3 => insert_exact(End::Excluded, body),
-        4 => insert_exact(End::Included, body),
-        5 => with_pair(Pair::Delete, body),
-        6 => Request::DeleteMin,
-        7 => Request::DeleteMax,
-        8 => Request::Clear,
-        _ => with_pair(Pair::Query, body),
-    }
-}
-
-// Reads what follows the byte of kind.
-fn read_body(kind: u8, body: &[u8]) -> Reading
-    ensures { reading_of result ≡ reads_kind (row kind) body.now }
-{
-    match body_length(kind) {
-        Body::Unknown => Reading::Unknown,
-        Body::Length(n) => {
-            if body.len() < n {
-                return Reading::CutShort;
-            }
-            Reading::Whole(means(kind, body), n + 1)
+    // The kind that a record begins with.
+    fn try_from(byte: u8) -> Result<Kind, Refusal> {
+        match byte {
+            1 => Ok(Kind::InsertMetres),
+            2 => Ok(Kind::InsertLinks),
+            3 => Ok(Kind::InsertExcluded),
+            4 => Ok(Kind::InsertIncluded),
+            5 => Ok(Kind::Delete),
+            6 => Ok(Kind::DeleteMin),
+            7 => Ok(Kind::DeleteMax),
+            8 => Ok(Kind::Clear),
+            9 => Ok(Kind::Query),
+            _ => Err(Refusal::UnknownKind),
         }
     }
 }
 
-// Reads one record, of kinds 1 to 9.
-pub fn read(bytes: &[u8]) -> Reading
-    ensures { reading_of result ≡ reads kinds bytes.now }
-{
-    if bytes.len() == 0 {
-        return Reading::CutShort;
+impl Kind {
+    // The kind that a record of a feed begins with: a query is unknown there.
+    pub fn in_feed(byte: u8) -> Result<Kind, Refusal>
+        ensures { Finds feed_kinds byte result }
+    {
+        match Kind::try_from(byte)? {
+            Kind::Query => Err(Refusal::UnknownKind),
+            kind => Ok(kind),
+        }
     }
-    read_body(bytes[0], &bytes[1..])
+
+    // How long the body is.
+    pub fn body_length(self) -> usize
+        ensures { result ≡ (row_of self).body_length }
+    {
+        match self {
+            Kind::InsertMetres | Kind::InsertLinks => 16,
+            Kind::InsertExcluded | Kind::InsertIncluded => 24,
+            Kind::Delete | Kind::Query => 16,
+            Kind::DeleteMin | Kind::DeleteMax | Kind::Clear => 0,
+        }
+    }
+
+    // What a whole body asks.
+    pub fn means(self, body: &[u8]) -> Request
+        requires { (row_of self).body_length ≤ length body.now }
+        ensures { request_of result ≡ (row_of self).means body.now }
+    {
+        match self {
+            Kind::InsertMetres => insert_by(METRE, body),
+            Kind::InsertLinks => insert_by(LINK, body),
+            Kind::InsertExcluded => insert_exact(End::Excluded, body),
+            Kind::InsertIncluded => insert_exact(End::Included, body),
+            Kind::Delete => Request::Delete(stretch(End::Excluded, body)),
+            Kind::DeleteMin => Request::DeleteMin,
+            Kind::DeleteMax => Request::DeleteMax,
+            Kind::Clear => Request::Clear,
+            Kind::Query => Request::Query(stretch(End::Excluded, body)),
+        }
+    }
+
+    // Reads the body that follows the byte of kind.
+    fn read(self, body: &[u8]) -> Result<Record, Refusal>
+        ensures { reading_of result ≡ some (reads_kind (some (row_of self)) body.now) }
+    {
+        let length = self.body_length();
+        if body.len() < length {
+            return Err(Refusal::CutShort);
+        }
+        Ok(Record {
+            request: self.means(body),
+            taken: 1 + length,
+        })
+    }
+}
+
+// Reads one record, of kinds 1 to 9.
+pub fn read(bytes: &[u8]) -> Result<Record, Refusal>
+    ensures { reading_of result ≡ some (reads kinds bytes.now) }
+{
+    match bytes.split_first() {
+        Some((byte, body)) => Kind::try_from(*byte)?.read(body),
+        None => Err(Refusal::CutShort),
+    }
+}
+
+// Reads one record of a feed, where a query is a record of an unknown kind. (A trait for the two tables would be longer than
+// this match.)
+pub fn read_in_feed(bytes: &[u8]) -> Result<Record, Refusal>
+    ensures { reading_of result ≡ some (reads feed_kinds bytes.now) }
+{
+    match bytes.split_first() {
+        Some((byte, body)) => Kind::in_feed(*byte)?.read(body),
+        None => Err(Refusal::CutShort),
+    }
 }

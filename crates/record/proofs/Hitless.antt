@@ -8,16 +8,16 @@ use Rattle.rules.specs.Request.{serve}
 use Rattle.rules.proofs.Hitless.{insert_hitless, delete_hitless, end_hitless}
 use Rattle.rules.proofs.Serving.{clear_fresh}
 use Rattle.request.specs.Requests.{end_of, request_of}
-use Rattle.request.specs.declared.End.{End}
+use Rattle.request.specs.declared.Stretch.{Stretch}
 use Rattle.request.specs.declared.Request.{Request}
 use Rattle.request.specs.declared.Request.TheVariants.{Insert, Delete, DeleteMin, DeleteMax, Clear, Query}
 
-pub unless_query : (c : ℕ) (r : Request) (p : Pool) → ((d : End) (a b : ℕ) → r ≡ Query d a b → ⊥)
+pub unless_query : (c : ℕ) (r : Request) (p : Pool) → ((s : Stretch) → r ≡ Query s → ⊥)
     → (serve c (request_of r) p).hits ≡ []
 unfolding serve
-unless_query c (Insert d a b v) p other = insert_hitless c (end_of d) a b v p
-unless_query c (Delete d a b) p other = delete_hitless c (end_of d) a b p
+unless_query c (Insert s v) p other = insert_hitless c (end_of s.bound) s.start s.end v p
+unless_query c (Delete s) p other = delete_hitless c (end_of s.bound) s.start s.end p
 unless_query c DeleteMin p other = end_hitless left p
 unless_query c DeleteMax p other = end_hitless right p
 unless_query c Clear p other = ap (λ x. x.hits) (clear_fresh c p)
-unless_query c (Query d a b) p other = absurd (other d a b refl)
+unless_query c (Query s) p other = absurd (other s refl)

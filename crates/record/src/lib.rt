@@ -1,20 +1,18 @@
-// Survey records to a sound pool: one record applied, and a feed of them.
+// Survey records to a sound pool: one record applied, and a feed of them. That the pool is sound is a clause, as in `serve`.
 #![tactic(auto)]
 
-ghost use Rattle.std.specs.Prelude.{◌≡◌, ◌≤◌, length};
+ghost use Rattle.std.specs.Prelude.{◌≡◌, ◌≤◌, length, Err};
 ghost use Rattle.rules.specs.Pool.{Pool, Holds, capacity};
-ghost use Rattle.rules.specs.Record.{whole, kinds, reads};
+ghost use Rattle.rules.specs.Record.{kinds, reads};
 ghost use Rattle.rules.specs.Request.{serve};
 ghost use Rattle.rules.specs.Feed.{feed_turns};
 ghost use Rattle.rules.specs.Entries.{apply_read, fed};
-ghost use Rattle.request.specs.Requests.{request_of};
-ghost use Rattle.record.specs.Answers.{applied_of, fed_of};
-ghost use Rattle.record.specs.Applying.{came_to, Turned};
+ghost use Rattle.record.specs.Answers.{taken_of, applied_of, records_of, fed_of};
+ghost use Rattle.record.specs.Applying.{Turned};
 
-use reading::{Body, Reading};
-use request::{Answer, Request};
+use request::{Outcome, Refusal, Request};
 
-// What applying a record did: its number, the bytes taken, and the hits.
+// What applying a record did: its number, the bytes taken, and the hits. Laid out for C, and so with a number.
 #[repr(C)]
 #[derive(Clone, Copy)]
 pub struct Taken {
@@ -23,7 +21,7 @@ pub struct Taken {
     pub hits: usize,
 }
 
-// What a feed came to: the number it ended with, the records applied and their bytes.
+// What a feed came to: the number it ended with, the records applied and their bytes. Laid out for C as well.
 #[repr(C)]
 #[derive(Clone, Copy)]
 pub struct Records {
@@ -32,77 +30,77 @@ pub struct Records {
     pub taken: usize,
 }
 
-// One turn of a feed: a record of so many bytes was applied, or one was refused.
+// What a record came to that was applied: the outcome, the bytes taken, and the hits.
 #[derive(Clone, Copy)]
-enum Turn {
-    Applied(usize),
-    Refused(u64),
+pub struct Applied {
+    pub outcome: Outcome,
+    pub taken: usize,
+    pub hits: usize,
 }
 
-// What applying a record came to: where it is refused, none of its bytes is taken.
-fn outcome(number: u64, taken: usize, hits: usize) -> Taken
-    ensures { result ≡ came_to number taken hits }
-{
-    if request::is_refusal(number) {
-        return Taken {
-            number,
+impl From<Result<Applied, Refusal>> for Taken {
+    ghost from_gives = { λ applied it. it ≡ taken_of applied };
+
+    // Where the record is refused, none of its bytes is taken.
+    fn from(applied: Result<Applied, Refusal>) -> Taken {
+        match applied {
+            Ok(applied) => Taken {
+                number: applied.outcome.into(),
+                taken: applied.taken,
+                hits: applied.hits,
+            },
+            Err(refusal) => Taken {
+                number: refusal.into(),
+                taken: 0,
+                hits: 0,
+            },
+        }
+    }
+}
+
+impl From<Refusal> for Records {
+    ghost from_gives = { λ refusal it. it ≡ records_of (Err refusal) };
+
+    // A feed that is refused as a whole applies no record.
+    fn from(refusal: Refusal) -> Records {
+        Records {
+            number: refusal.into(),
+            records: 0,
             taken: 0,
-            hits,
-        };
+        }
     }
-    Taken {
-        number,
-        taken,
-        hits,
-    }
-}
-
-// Serves what a record of `taken` bytes asked. Only a query writes to the lent run of rows.
-fn apply_request(words: &mut [u64], request: Request, taken: usize, rows: &mut [u64]) -> Taken
-    requires { (p : Pool) × Holds words.old p }
-    ensures { (p : Pool) → Holds words.old p → applied_of result words.new rows.new ≡ apply_read (whole (request_of request) taken) (capacity (length words.old)) p rows.old }
-{
-    if let Request::Query { bound, start, end } = request {
-        let asked = query::ask(words, bound, start, end);
-        let hits = query::list(words, asked, rows);
-        return outcome(asked.number, taken, hits);
-    }
-    outcome(serve::edit(words, request), taken, 0)
 }
 
 // Applies the record at the front of the bytes. Only a query writes to the lent run of rows.
-pub fn apply(words: &mut [u64], bytes: &[u8], rows: &mut [u64]) -> Taken
+pub fn apply(words: &mut [u64], bytes: &[u8], rows: &mut [u64]) -> Result<Applied, Refusal>
     requires { (p : Pool) × Holds words.old p }
-    ensures { (p : Pool) → Holds words.old p → applied_of result words.new rows.new ≡ apply_read (reads kinds bytes.now) (capacity (length words.old)) p rows.old }
+    ensures { (p : Pool) → Holds words.old p → applied_of (taken_of result) words.new rows.new ≡ apply_read (reads kinds bytes.now) (capacity (length words.old)) p rows.old }
 {
-    match reading::read(bytes) {
-        Reading::Whole(request, taken) => apply_request(words, request, taken, rows),
-        Reading::Unknown => outcome(request::number_of(Answer::UnknownKind), 0, 0),
-        Reading::CutShort => outcome(request::number_of(Answer::CutShort), 0, 0),
+    let record = reading::read(bytes)?;
+    if let Request::Query(stretch) = record.request {
+        let hits = query::list(words, stretch, rows)?;
+        return Ok(Applied {
+            outcome: Outcome::Done,
+            taken: record.taken,
+            hits,
+        });
     }
+    let outcome = serve::edit(words, record.request)?;
+    Ok(Applied {
+        outcome,
+        taken: record.taken,
+        hits: 0,
+    })
 }
 
-// One turn of a feed: the record at the front of the bytes.
-fn feed_one(words: &mut [u64], bytes: &[u8]) -> Turn
+// One turn of a feed: serves the record at the front of the bytes, and answers how many it takes.
+fn feed_one(words: &mut [u64], bytes: &[u8]) -> Result<usize, Refusal>
     requires { (p : Pool) × Holds words.old p × (1 ≤ length bytes.now) }
     ensures { (p : Pool) → Holds words.old p → 1 ≤ length bytes.now → Turned result words.old words.new bytes.now p }
 {
-    let kind = bytes[0];
-    match reading::body_length_in_feed(kind) {
-        Body::Unknown => Turn::Refused(request::number_of(Answer::UnknownKind)),
-        Body::Length(n) => {
-            let body = &bytes[1..];
-            if body.len() < n {
-                return Turn::Refused(request::number_of(Answer::CutShort));
-            }
-            let number = serve::edit(words, reading::means(kind, body));
-            if request::is_refusal(number) {
-                Turn::Refused(number)
-            } else {
-                Turn::Applied(n + 1)
-            }
-        }
-    }
+    let record = reading::read_in_feed(bytes)?;
+    serve::edit(words, record.request)?;
+    Ok(record.taken)
 }
 
 // Applies records until the bytes end or one is refused.
@@ -110,26 +108,26 @@ pub fn feed(words: &mut [u64], bytes: &[u8]) -> Records
     requires { (p : Pool) × Holds words.old p }
     ensures { (p : Pool) → Holds words.old p → fed_of result words.new ≡ fed (capacity (length words.old)) (feed_turns (serve (capacity (length words.old))) (length bytes.now) bytes.now p) }
 {
-    let mut at = 0;
+    let mut rest = bytes;
     let mut records = 0;
-    while at < bytes.len() {
-        match feed_one(words, &bytes[at..]) {
-            Turn::Applied(taken) => {
-                at += taken;
+    while !rest.is_empty() {
+        match feed_one(words, rest) {
+            Ok(taken) => {
+                rest = &rest[taken..];
                 records += 1;
             }
-            Turn::Refused(number) => {
+            Err(refusal) => {
                 return Records {
-                    number,
+                    number: refusal.into(),
                     records,
-                    taken: at,
+                    taken: bytes.len() - rest.len(),
                 };
             }
         }
     }
     Records {
-        number: request::number_of(Answer::Done),
+        number: Outcome::Done.into(),
         records,
-        taken: at,
+        taken: bytes.len(),
     }
 }

@@ -4,7 +4,7 @@
 
 mod report;
 
-use lines::{line, notes};
+use listing::Listing;
 use rules::{MOST_SLOTS, POOL_WORDS};
 use std::io;
 use std::io::Read;
@@ -16,30 +16,20 @@ const ROW_WORDS: usize = 3 * MOST_SLOTS;
 const BLOCK_BYTES: usize = 4096;
 
 // Reads a block and takes it in. Answers whether there was any.
-fn turn(
-    input: &mut impl Read,
-    room: &mut [u64],
-    rows: &mut [u64],
-    line: &mut line::Line,
-    notes: &mut notes::Notes,
-) -> io::Result<bool> {
+fn turn(input: &mut impl Read, listing: &mut Listing) -> io::Result<bool> {
     let mut block = [0u8; BLOCK_BYTES];
     let n = input.read(&mut block)?;
-    listing::take(&block[..n], room, rows, line, notes);
+    listing.take(&block[..n]);
     Ok(n > 0)
 }
 
-// Takes in the whole list. The turns are counted down, from a number that no run uses up, so that the loop ends.
-fn replay(
-    input: &mut impl Read,
-    room: &mut [u64],
-    rows: &mut [u64],
-    line: &mut line::Line,
-    notes: &mut notes::Notes,
-) -> io::Result<()> {
-    let mut turns = u64::MAX;
-    while turns > 0 && turn(input, room, rows, line, notes)? {
-        turns -= 1;
+// Takes in the whole list. No run uses up the turns, which are counted so that the loop ends. (The program `survey` has such a
+// loop too, and no crate in common with this one.)
+fn replay(input: &mut impl Read, listing: &mut Listing) -> io::Result<()> {
+    for _ in 0..u64::MAX {
+        if !turn(input, listing)? {
+            break;
+        }
     }
     Ok(())
 }
@@ -48,8 +38,7 @@ fn replay(
 fn main(rt: HostRuntime) -> io::Result<()> {
     let mut room = [0u64; POOL_WORDS];
     let mut rows = [0u64; ROW_WORDS];
-    let mut line = [0u64; 10];
-    let mut notes = [0u64; 64];
-    replay(&mut rt.stdin(), &mut room, &mut rows, &mut line, &mut notes)?;
-    report::report(&rt, &notes)
+    let mut listing = Listing::new(&mut room, &mut rows);
+    replay(&mut rt.stdin(), &mut listing)?;
+    report::report(&rt, &listing.notes.counts)
 }

@@ -1,2 +1,3 @@
--- What the answer of `range_to` says of the range of a request.
+-- What the answer of `Stretch::range` says of the range, and what a refusal is when it is answered on.
+pub mod Refused
 pub mod Ranged

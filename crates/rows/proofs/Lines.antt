@@ -7,6 +7,7 @@ use mathlib.Core.Option.{Option, none, some}
 use mathlib.Core.Path.{◌≡◌, refl, sym, ap, ◌∙◌}
 use native.Mathlib.Omega.{arith}
 use lib.ListN.{length, set}
+use Rattle.std.specs.Prelude.{Some, None}
 use borrow.Author.Tests.{le-leb, lt-leb}
 use Rattle.rules.specs.Tree.{Entry}
 use Rattle.rules.specs.Steps.{with_hit}
@@ -30,7 +31,7 @@ module _ (n start end value : ℕ) where
   some_room run h = rw (le-leb (3 * n + 3) (length run) h)
 
 -- a row after a first one is a row of the rest
-later-row :
+pub later-row :
     (n start end value a b c : ℕ) (run : List ℕ)
     → with_row (a ∷ b ∷ c ∷ run) (suc n) start end value ≡ a ∷ b ∷ c ∷ with_row run n start end value
 later-row n start end value a b c run =
@@ -81,22 +82,19 @@ pub rows_more :
 rows_more done none run = rw (append-nil done)
 rows_more done (some e) run = next_row done e run
 
--- a slot number that is not 0 is that of a slot
-pub hit-within : {ss : List ℕ} {k : ℕ} {o : Option Entry} → Hit ss k o → (k ≡ 0 → ⊥) → Within ss k
-hit-within no_hit z = absurd (z refl)
-hit-within (hit_in b) z = b.at
+-- a slot that is hit is one of these
+pub hit-within : {ss : List ℕ} {k : ℕ} {o : Option Entry} → Hit ss (Some k) o → Within ss k
+hit-within (hit_in b) = b.at
 
 -- no hit: nothing is counted or written
 pub not_counted :
-    {ss run : List ℕ} {k count : ℕ} {o : Option Entry} → Hit ss k o → k ≡ 0
+    {ss run : List ℕ} {count : ℕ} {o : Option Entry} → Hit ss None o
     → (count ≡ count + length (with_hit o [])) × (run ≡ with_hit_row run count o)
-not_counted no_hit z = (omega arith, refl)
-not_counted (hit_in b) z = let from_one = b.at.from_one in absurd (omega arith)
+not_counted no_hit = (omega arith, refl)
 
 -- a hit: it is counted, and its slot's words are written
 pub counted :
-    {ss after : List ℕ} {k : ℕ} {o : Option Entry} (run : List ℕ) (count : ℕ) → Hit ss k o → (k ≡ 0 → ⊥)
+    {ss after : List ℕ} {k : ℕ} {o : Option Entry} (run : List ℕ) (count : ℕ) → Hit ss (Some k) o
     → after ≡ with_row run count (slot_word ss k 0) (slot_word ss k 1) (slot_word ss k 2)
     → (count + 1 ≡ count + length (with_hit o [])) × (after ≡ with_hit_row run count o)
-counted run count no_hit z h = absurd (z refl)
-counted run count (hit_in b) z h = (refl, h ∙ rw (b.start_word, b.end_word, b.value_word) refl)
+counted run count (hit_in b) h = (refl, h ∙ rw (b.start_word, b.end_word, b.value_word) refl)

@@ -13,6 +13,7 @@ use Rattle.rules.specs.Pool.{Pool, words, capacity, good, ascending, Holds}
 use Rattle.rules.proofs.Lengths.{roomy}
 use Rattle.rules.proofs.Once.{claims, good-says, at_most_once}
 use Rattle.rules.proofs.Stored.{Laid, laid_words, holds-rooted}
+use Rattle.pool.proofs.Parts.{part_from, part_lent, with_part, length_with_part}
 use Rattle.tree.specs.Edits.{Standing}
 
 -- a header word is kept where the header is
@@ -50,3 +51,10 @@ header-there {ws} h = let room = roomy (length ws) h.right in omega arith
 pub holds-standing : {ws : List ℕ} {p : Pool} → Holds ws p → Standing (drop header_words ws) (get_or ws 0 0) p.tree
 holds-standing {ws} {p} h =
     record { rooted = holds-rooted h; is_balanced = (good-says (capacity (length ws)) p h.is_good).even }
+
+-- a call on the slots leaves as many words
+pub slots-long : {ws : List ℕ} (slots : List ℕ) {p : Pool} → Holds ws p → length slots ≡ length (part_from header_words ws)
+    → length (with_part header_words ws slots) ≡ length ws
+slots-long {ws} slots h same =
+    let there = header-there h in
+    length_with_part header_words ws slots (omega arith) (same ∙ ap length (part_lent header_words ws))

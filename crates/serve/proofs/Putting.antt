@@ -1,5 +1,5 @@
 -- An insert into a sound pool: what its calls are given, and that the answer is the rules'. Assumes nothing.
-use Prim.Native.Nat.{ℕ, ◌+◌, ◌%◌, ◌≤◌, ◌<◌}
+use Prim.Native.Nat.{ℕ, ◌+◌, ◌≤◌, ◌<◌}
 use mathlib.Core.Bool.{true, false}
 use mathlib.Core.List.{List, [], ◌∷◌}
 use mathlib.Core.Option.{Option, none, some}
@@ -22,11 +22,15 @@ use Rattle.rules.proofs.Stored.{holds_laid}
 use Rattle.node.specs.Node.{entry}
 use Rattle.pool.specs.Around.{Header, Claimed}
 use Rattle.pool.proofs.Chains.{chained-kept}
+use Rattle.std.specs.Prelude.{Some, None}
+use Rattle.settle.specs.Settling.{root_of}
+use Rattle.settle.specs.declared.Settled.{Settled}
 use Rattle.tree.specs.Edits.{Inserting, Inserts}
 use Rattle.tree.proofs.Inserting.{times_inserted}
 use Rattle.serve.specs.Answers.{Answers}
-use Rattle.request.specs.Answers.{number_of}
-use Rattle.request.specs.declared.Answer.TheVariants.{Done, There, Full}
+use Rattle.request.specs.Answers.{outcome_number, refusal_number}
+use Rattle.request.specs.declared.Outcome.TheVariants.{Done, There}
+use Rattle.request.specs.declared.Refusal.TheVariants.{Full}
 use Rattle.serve.proofs.Laying.{same_words, header-kept, left-words, claimed-once, in_order, header-there, holds-standing}
 
 -- the first free slot is a slot that no entry has
@@ -72,32 +76,31 @@ few-live {ws} p h =
 
 -- the answer where the range is found, and nothing was written
 pub answers-there : {ws : List ℕ} {p : Pool} (k : Range) (v : ℕ) → Holds ws p → true ≡ is_some (find k p.tree)
-    → Answers ws ws (number_of There) (insert_into (find k p.tree) p.free k v p)
+    → Answers ws ws (outcome_number There) (insert_into (find k p.tree) p.free k v p)
 answers-there {ws} {p} k v h found = go (find k p.tree) found
   where
-    go : (o : Option Entry) → true ≡ is_some o → Answers ws ws (number_of There) (insert_into o p.free k v p)
+    go : (o : Option Entry) → true ≡ is_some o → Answers ws ws (outcome_number There) (insert_into o p.free k v p)
     go none e = absurd (let z : ◌≡◌ {A = ℕ} 0 1 = cc in omega arith)
     go (some e) f = record { number_is = refl; words_are = h.all_words }
 
 -- the answer where the range is not found and no slot is free
 pub answers-full : {ws : List ℕ} (p : Pool) (k : Range) (v : ℕ) → Holds ws p → get_or ws 1 0 ≡ 0 → false ≡ is_some (find k p.tree)
-    → Answers ws ws (number_of Full) (insert_into (find k p.tree) p.free k v p)
+    → Answers ws ws (refusal_number Full) (insert_into (find k p.tree) p.free k v p)
 answers-full {ws} p k v h e new = go (find k p.tree) p.free new (full p.free h e)
   where
-    go : (o : Option Entry) (free : List ℕ) → false ≡ is_some o → free ≡ [] → Answers ws ws (number_of Full) (insert_into o free k v p)
+    go : (o : Option Entry) (free : List ℕ) → false ≡ is_some o → free ≡ [] → Answers ws ws (refusal_number Full) (insert_into o free k v p)
     go none [] f e = record { number_is = refl; words_are = h.all_words }
     go none (s ∷ rest) f e = absurd (let z : ◌≡◌ {A = ℕ} 0 1 = cc in omega arith)
     go (some x) free f e = absurd (let z : ◌≡◌ {A = ℕ} 0 1 = cc in omega arith)
 
 -- the tree's own insert found the range: nothing was written
-pub answers-kept : {ws after : List ℕ} {top : ℕ} (p : Pool) (k : Range) (v : ℕ) → Holds ws p → (get_or ws 1 0 ≡ 0 → ⊥)
+pub answers-kept : {ws after : List ℕ} (p : Pool) (k : Range) (v : ℕ) → Holds ws p → (get_or ws 1 0 ≡ 0 → ⊥)
     → take header_words after ≡ take header_words ws
     → ((t : Tree) → Inserting (drop header_words ws) (get_or ws 0 0) (get_or ws 1 0) t
-    → Inserts top (drop header_words ws) (drop header_words after) (entry (get_or ws 1 0) k.start k.end v) t)
-    → top ≡ 0
-    → Answers ws after (number_of There) (insert_into (find k p.tree) p.free k v p)
-answers-kept {ws} {after} p k v h there head done is =
-    let told = (done p.tree (inserting-first p h there)).there is in
+    → Inserts None (drop header_words ws) (drop header_words after) (entry (get_or ws 1 0) k.start k.end v) t)
+    → Answers ws after (outcome_number There) (insert_into (find k p.tree) p.free k v p)
+answers-kept {ws} {after} p k v h there head done =
+    let told = done p.tree (inserting-first p h there) in
     rw (same_words ws after head told.1) (answers-there k v h (rw told.0.1 refl))
 
 -- the entry is in the tree that is left at the root
@@ -112,7 +115,7 @@ answers-put : {ws after : List ℕ} {top : ℕ} (between : List ℕ) (p : Pool) 
     → length after ≡ length ws
     → drop header_words after ≡ drop header_words between
     → Header after top (slot_word (drop header_words ws) (get_or ws 1 0) 4) (get_or ws 2 0 + 1) 0
-    → Answers ws after (number_of Done) (insert_into (find k p.tree) p.free k v p)
+    → Answers ws after (outcome_number Done) (insert_into (find k p.tree) p.free k v p)
 unfolding serve range_to
 answers-put {ws} {after} {top} between p k v h there head done long same header =
     let told = done p.tree (inserting-first p h there) in
@@ -120,7 +123,7 @@ answers-put {ws} {after} {top} between p k v h there head done long same header 
   where
     go : (free : List ℕ) → Holds ws (pool p.tree free)
         → Puts top (drop header_words ws) (drop header_words between) (entry (get_or ws 1 0) k.start k.end v) p.tree
-        → Answers ws after (number_of Done) (insert_into none free k v p)
+        → Answers ws after (outcome_number Done) (insert_into none free k v p)
     go [] h told = absurd (there (holds_laid h).head.free_word)
     go (s ∷ rest) h told =
         let c = capacity (length ws) in
@@ -159,20 +162,19 @@ answers-put {ws} {after} {top} between p k v h there head done long same header 
         goes (goes_on f chain) = chain
 
 -- the same, as the calls leave it
-pub answers-claimed : {ws after : List ℕ} {top root next : ℕ} (between : List ℕ) (p : Pool) (k : Range) (v : ℕ) → Holds ws p
+pub answers-claimed : {ws after : List ℕ} {top : Settled} {root next : ℕ} (between : List ℕ) (p : Pool) (k : Range) (v : ℕ) → Holds ws p
     → (get_or ws 1 0 ≡ 0 → ⊥)
     → take header_words between ≡ take header_words ws
     → ((t : Tree) → Inserting (drop header_words ws) (get_or ws 0 0) (get_or ws 1 0) t
-    → Inserts top (drop header_words ws) (drop header_words between) (entry (get_or ws 1 0) k.start k.end v) t)
-    → (top ≡ 0 → ⊥)
-    → root ≡ top % half
+    → Inserts (Some top) (drop header_words ws) (drop header_words between) (entry (get_or ws 1 0) k.start k.end v) t)
+    → root ≡ root_of top
     → length between ≡ length ws
     → next ≡ slot_word (drop header_words ws) (get_or ws 1 0) 4
     → Claimed between after root next
-    → Answers ws after (number_of Done) (insert_into (find k p.tree) p.free k v p)
-answers-claimed {ws} between p k v h there head done answered root_is long next_is claimed =
+    → Answers ws after (outcome_number Done) (insert_into (find k p.tree) p.free k v p)
+answers-claimed {ws} between p k v h there head done root_is long next_is claimed =
     answers-put between p k v h there head
-    (λ t i. let put = (done t i).put answered in (put.0, rw root_is put.1.left))
+    (λ t i. let put = done t i in (put.0, rw root_is put.1.left))
     (claimed.long ∙ long) claimed.same_slots
     (record {
       root_word = claimed.header.root_word;

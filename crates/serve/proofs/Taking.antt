@@ -28,8 +28,8 @@ use Rattle.tree.proofs.Hanging.{not_node}
 use Rattle.tree.proofs.Deleting.{times_deleted}
 use Rattle.tree.proofs.Shedding.{times_ended}
 use Rattle.serve.specs.Answers.{Answers}
-use Rattle.request.specs.Answers.{number_of}
-use Rattle.request.specs.declared.Answer.TheVariants.{Done, Absent}
+use Rattle.request.specs.Answers.{outcome_number}
+use Rattle.request.specs.declared.Outcome.TheVariants.{Done, Absent}
 use Rattle.serve.proofs.Laying.{same_words, header-kept, left-words, claimed-once, in_order, holds-standing}
 
 -- A tree was left without one slot, which is then released: the words are those of the smaller pool.
@@ -80,7 +80,7 @@ module _ {ws : List ℕ} (between : List ℕ) {top slot : ℕ} {p : Pool} {u : T
 pub answers-absent : {ws after : List ℕ} {p : Pool} {gone : Removed} (k : Range) → Holds ws p → take header_words after ≡ take header_words ws
     → ((t : Tree) → Standing (drop header_words ws) (get_or ws 0 0) t → Deletes gone (drop header_words ws) (drop header_words after) k t)
     → gone.slot ≡ 0
-    → Answers ws after (number_of Absent) (delete_from (find k p.tree) k p)
+    → Answers ws after (outcome_number Absent) (delete_from (find k p.tree) k p)
 answers-absent {ws} {after} {p} k h head done is =
     let told = (done p.tree (holds-standing h)).absent is in
     rw (told.0, same_words ws after head told.1) (record { number_is = refl; words_are = h.all_words })
@@ -103,7 +103,7 @@ pub answers-gone : {ws after : List ℕ} {p : Pool} {e : Entry} {slot : ℕ} (k 
     → e.slot ≡ slot
     → (good (capacity (length ws)) (pool (delete k p.tree) (slot ∷ p.free)) ≡ true
     → after ≡ words (capacity (length ws)) (pool (delete k p.tree) (slot ∷ p.free)))
-    → Answers ws after (number_of Done) (delete_from (find k p.tree) k p)
+    → Answers ws after (outcome_number Done) (delete_from (find k p.tree) k p)
 unfolding serve range_to
 answers-gone {ws} {after} {p} {e} k h found is left =
     let c = capacity (length ws) in
@@ -112,10 +112,10 @@ answers-gone {ws} {after} {p} {e} k h found is left =
 
 -- a removal of an end of no tree
 pub answers_no_end : {ws : List ℕ} (s : Side) (p : Pool) → Holds ws p → get_or ws 0 0 ≡ 0
-    → Answers ws ws (number_of Absent) (delete_end_from s p.tree p)
+    → Answers ws ws (outcome_number Absent) (delete_end_from s p.tree p)
 answers_no_end {ws} s p h empty = go p.tree (holds-rooted h)
   where
-    go : (t : Tree) → Rooted (drop header_words ws) (get_or ws 0 0) t → Answers ws ws (number_of Absent) (delete_end_from s t p)
+    go : (t : Tree) → Rooted (drop header_words ws) (get_or ws 0 0) t → Answers ws ws (outcome_number Absent) (delete_end_from s t p)
     go leaf r = record { number_is = refl; words_are = h.all_words }
     go (node e l r) t = absurd (not_node t empty)
 
@@ -136,14 +136,14 @@ pub answers-end : {ws after : List ℕ} {slot : ℕ} (s : Side) (p : Pool) → H
     → slot ≡ end_slot s p.tree
     → (good (capacity (length ws)) (pool (shed s p.tree) (slot ∷ p.free)) ≡ true
     → after ≡ words (capacity (length ws)) (pool (shed s p.tree) (slot ∷ p.free)))
-    → Answers ws after (number_of Done) (delete_end_from s p.tree p)
+    → Answers ws after (outcome_number Done) (delete_end_from s p.tree p)
 unfolding serve
 answers-end {ws} {after} {slot} s p h tall is left = go p.tree refl tall is left
   where
     go : (t : Tree) → p.tree ≡ t → 1 ≤ levels t → slot ≡ end_slot s t
         → (good (capacity (length ws)) (pool (shed s t) (slot ∷ p.free)) ≡ true
         → after ≡ words (capacity (length ws)) (pool (shed s t) (slot ∷ p.free)))
-        → Answers ws after (number_of Done) (delete_end_from s t p)
+        → Answers ws after (outcome_number Done) (delete_end_from s t p)
     go leaf same tall is left = absurd (omega arith)
     go (node e l r) same tall is left =
         let c = capacity (length ws) in

@@ -1,5 +1,5 @@
 -- The laws that the proofs of the functions cite.
-pub mod Settled
+pub mod Changed
 pub mod Counting
 pub mod Gained
 pub mod Lost

@@ -1,14 +1,14 @@
 -- The free chain, slot by slot: what is chained from slot k on, none of it claimed, is slot k and what is chained from
 -- its link on once k is claimed. So a walk along it finds exactly the chain. Assumes nothing.
-use Prim.Native.Nat.{ℕ, suc, ◌-◌, ◌*◌, ◌/◌, ◌≤◌, ◌<◌}
+use Prim.Native.Nat.{ℕ, suc, ◌-◌, ◌*◌, ◌/◌, ◌≤◌}
 use mathlib.Core.Bool.{true, false, ◌&&◌, ◌||◌}
 use mathlib.Core.List.{List, [], ◌∷◌}
-use mathlib.Core.Logic.{◌⊎◌, inl, inr, ⊎_elim}
+use mathlib.Core.Logic.{⊎_elim}
 use mathlib.Core.Path.{◌≡◌, refl, sym, ◌∙◌}
 use native.Mathlib.Omega.{arith}
 use lib.Dec.{eqb, ltb}
 use lib.ListN.{length, get_or, set}
-use borrow.Author.Tests.{eq-eqb, eqb-true, eqb-false, ltb-true, ltb-false}
+use borrow.Author.Tests.{eq-eqb, ne_eqb, eqb-true, eqb-false, ltb-true, ltb-false}
 use Rattle.rules.specs.Limits.{slot_words}
 use Rattle.rules.specs.Pool.{first}
 use Rattle.rules.specs.Stored.{slot_word, Within, Freed, Chained, ends, goes_on}
@@ -64,6 +64,14 @@ none-chain {ss} p = sym p.long ∙ go p.chained p.from
     go : {xs : List ℕ} → Chained ss xs → first xs ≡ 0 → length xs ≡ 0
     go ends z = refl
     go (goes_on f c) z = absurd (omega (arith, f.at.from_one))
+
+-- and a chain of none begins in no slot
+chain-first : {ss ms : List ℕ} {k : ℕ} → Chain ss ms k 0 → k ≡ 0
+chain-first {ss} p = sym p.from ∙ go p.chained p.long
+  where
+    go : {xs : List ℕ} → Chained ss xs → length xs ≡ 0 → first xs ≡ 0
+    go ends z = refl
+    go (goes_on f c) z = absurd (omega arith)
 
 -- a chain from slot k on: k is a free slot that is not claimed, and the rest is chained from its link on
 record Onward (ss ms : List ℕ) (k n : ℕ) : Type 0 where
@@ -135,19 +143,7 @@ module _ {ss ms now : List ℕ} {from n k rest : ℕ} (room : Room ss) (turned :
           back = λ p. turned.back (chain_on room turned.flags low inside some free p);
         }
 
-    -- the walk has come to more slots than there should be, or to a number that is no slot's
-    pub turn_out : eqb rest 0 || ltb (length ss / 6) k ≡ true → Decides (Chain ss ms from n) false
-    turn_out out =
-        refuted
-        (λ p.
-        let q = turned.forth p in
-        let o = onward room turned.flags low q.chained q.from q.long q.unclaimed in
-        ⊎_elim (λ e. omega (arith, o.some, e)) (λ e. omega (arith, o.at.inside, e)) (either out))
-      where
-        either : eqb rest 0 || ltb (length ss / 6) k ≡ true → (rest ≡ 0) ⊎ (length ss / 6 < k)
-        either h = ⊎_elim (λ y. inl y.0) (λ d. inr (ltb-true (length ss / 6) k (rw d.1 at h))) (eq_cases rest 0)
-
-    -- to a slot that was claimed already or is not free
+    -- the walk has come to a slot that was claimed already or is not free
     pub turn_not : eqb (get_or now k 0) 0 && zeros_here ss k ≡ false → Decides (Chain ss ms from n) false
     turn_not failed =
         refuted
@@ -155,17 +151,37 @@ module _ {ss ms now : List ℕ} {from n k rest : ℕ} (room : Room ss) (turned :
         let q = turned.forth p in
         not_both (onward room turned.flags low q.chained q.from q.long q.unclaimed).free failed)
 
-    -- else it goes on
-    pub turn_in : eqb rest 0 || ltb (length ss / 6) k ≡ false → (1 ≤ rest) × (slot_words * k ≤ length ss)
-    turn_in h =
-        ⊎_elim (λ y. absurd (not_both (rw y.1 refl) h))
-        (λ d. omega (arith, d.0, ltb-false (length ss / 6) k (rw d.1 at h)))
-        (eq_cases rest 0)
-
-  -- or to the end, and then all slots have to be passed
+  -- to the end, and then all slots have to be passed
   pub turn_end : k ≡ 0 → Decides (Chain ss ms from n) (eqb rest 0)
   turn_end is =
       record {
         accepted = λ yes. turned.back (rw (is, eqb-true rest 0 yes) (chain-none turned.flags));
         refused = λ failed p. eqb-false rest 0 failed (none-chain (rw is at (turned.forth p)));
+      }
+
+  -- to the end though there are slots left, or to a number that is no slot's
+  pub turn_out : 1 ≤ rest → eqb k 0 || ltb (length ss / 6) k ≡ true → Decides (Chain ss ms from n) false
+  turn_out some out =
+      ⊎_elim (λ e. rw (ne_eqb rest 0 (λ z. omega (arith, some, z))) at (turn_end e.0))
+      (λ d.
+      refuted
+      (λ p.
+      let q = turned.forth p in
+      let o = onward room turned.flags (omega (arith, d.0)) q.chained q.from q.long q.unclaimed in
+      omega (arith, o.at.inside, ltb-true (length ss / 6) k (rw d.1 at out))))
+      (eq_cases k 0)
+
+  -- else it goes on
+  pub turn_in : eqb k 0 || ltb (length ss / 6) k ≡ false → (1 ≤ k) × (slot_words * k ≤ length ss)
+  turn_in h =
+      ⊎_elim (λ y. absurd (not_both (rw y.1 refl) h))
+      (λ d. (omega (arith, d.0), omega (arith, ltb-false (length ss / 6) k (rw d.1 at h))))
+      (eq_cases k 0)
+
+  -- or through all slots, and then no other may follow
+  pub turn_through : rest ≡ 0 → Decides (Chain ss ms from n) (eqb k 0)
+  turn_through is =
+      record {
+        accepted = λ yes. turned.back (rw (is, eqb-true k 0 yes) (chain-none turned.flags));
+        refused = λ failed p. eqb-false k 0 failed (chain-first (rw is at (turned.forth p)));
       }

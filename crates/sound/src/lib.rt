@@ -1,16 +1,18 @@
-// The soundness check of document 01: whether lent words hold a pool, and so whether an entry may go to work on them.
+// The soundness check of document 01: whether lent words hold a pool, and so whether an entry may go to work on them. The
+// slots and the marks are lent apart: in one struct each step would have to promise that the slots stay.
 #![tactic(auto)]
 
 ghost use Rattle.std.specs.Prelude.{◌≡◌, true, ◌*◌, ◌≤◌, ◌<◌, eqb, length, get_or, set};
 ghost use Rattle.rules.specs.Limits.{slot_words};
 ghost use Rattle.rules.specs.Pool.{right_length};
 ghost use Rattle.rules.specs.Entries.{check};
-ghost use Rattle.request.specs.Answers.{number_of};
+ghost use Rattle.request.specs.Answers.{zero_or_refusal};
 ghost use Rattle.sound.specs.Claims.{Decides, IsSound, Parent, Ready, Judged, Chain, Flags, Room};
 
 use clauses::{header, in_order, zeros};
 use fitting::{fits, fits_alone, left, right};
-use request::Answer;
+use node::LINKS;
+use request::Refusal;
 use rules::{MOST_SLOTS, SLOT_WORDS};
 
 // Claims slot k, and whether it wasn't claimed before.
@@ -32,7 +34,7 @@ fn has_children(slots: &[u64], k: u64) -> bool
     if k == 0 {
         return false;
     }
-    node::word(slots, k, 4) != 0
+    node::word(slots, k, LINKS) != 0
 }
 
 // Whether what is in slot `root`, none for 0, is a tree of slots that weren't claimed before, all of it right, between
@@ -95,18 +97,16 @@ fn chain(slots: &[u64], marks: &mut [u8], first: u64, n: u64) -> bool
 {
     let count = (slots.len() / SLOT_WORDS) as u64;
     let mut k = first;
-    let mut rest = n;
-    while k != 0 {
-        if (rest == 0) | (count < k) {
+    for _ in 0..n {
+        if (k == 0) | (count < k) {
             return false;
         }
         if !(claim(marks, k) & zeros(slots, k)) {
             return false;
         }
-        rest -= 1;
-        k = node::word(slots, k, 4);
+        k = node::word(slots, k, LINKS);
     }
-    rest == 0
+    k == 0
 }
 
 // Whether words of a right length hold a pool.
@@ -130,16 +130,15 @@ fn is_sound(words: &[u64]) -> bool
     )
 }
 
-// Whether the words have a right length, and if so whether they hold a pool.
-pub fn check(words: &[u64]) -> Answer
-    ensures { number_of result ≡ check words.now }
+// Refuses words of a wrong length, and those that hold no pool.
+pub fn check(words: &[u64]) -> Result<(), Refusal>
+    ensures { zero_or_refusal result ≡ check words.now }
 {
     if !pool::is_right_length(words.len()) {
-        return Answer::WrongLength;
+        return Err(Refusal::WrongLength);
     }
-    if is_sound(words) {
-        Answer::Done
-    } else {
-        Answer::Unsound
+    if !is_sound(words) {
+        return Err(Refusal::Unsound);
     }
+    Ok(())
 }

@@ -4,9 +4,10 @@
 ghost use Rattle.std.specs.Prelude.{◌≡◌, ◌*◌, ◌≤◌, length, IfOk};
 ghost use Rattle.survey.specs.Ready.{Ready};
 
-use reading::Body;
-use std::io;
+use reading::Kind;
+use request::{Outcome, Refusal};
 use std::io::Read;
+use std::{fmt, io};
 
 // The words of a pool of 800 slots.
 const POOL_WORDS: usize = 4804;
@@ -18,28 +19,28 @@ const ROW_WORDS: usize = 2400;
 const RECORD_BYTES: usize = 25;
 
 // How many bytes follow a byte of kind: none where the kind is not in the table.
-fn body_length(kind: u8) -> usize
+fn body_length(byte: u8) -> usize
     ensures { result ≤ 24 }
 {
-    match reading::body_length(kind) {
-        Body::Length(n) => n,
-        Body::Unknown => 0,
+    match Kind::try_from(byte) {
+        Ok(kind) => kind.body_length(),
+        Err(_) => 0,
     }
 }
 
 // Reads until `bytes` is full or the input ends, and answers how many there are at the front. A read that fails ends it
-// with that error, and leaves at the front what came before.
+// with that error, and leaves at the front what came before. (The library's `read_exact` answers no count where the input
+// ends inside a record.)
 fn read_full(input: &mut impl Read, bytes: &mut [u8]) -> io::Result<usize>
     ensures within { IfOk result (λ n. n ≤ length bytes.new) }
     ensures as_long { length bytes.new ≡ length bytes.old }
 {
     let mut done = 0;
     while done < bytes.len() {
-        let n = input.read(&mut bytes[done..])?;
-        if n == 0 {
-            return Ok(done);
+        match input.read(&mut bytes[done..])? {
+            0 => break,
+            n => done += n,
         }
-        done += n;
     }
     Ok(done)
 }
@@ -59,15 +60,16 @@ fn read_record(input: &mut impl Read, bytes: &mut [u8]) -> io::Result<usize>
     Ok(1 + got)
 }
 
-// Writes the line of a record that was no query, or of one that was refused.
-fn write_answer(rt: &impl Print, number: u64) -> io::Result<()> {
-    match number {
-        0 => rt.write_all(b"done\n"),
-        1 => rt.write_all(b"kept\n"),
-        2 => rt.write_all(b"none\n"),
-        _ => {
+// Writes the line of a record that was no query, or of one that was refused. The words of a line are byte strings by a rule
+// of the project, so that no type is displayed here.
+fn write_answer(rt: &impl Print, answer: Result<Outcome, Refusal>) -> io::Result<()> {
+    match answer {
+        Ok(Outcome::Done) => rt.write_all(b"done\n"),
+        Ok(Outcome::There) => rt.write_all(b"kept\n"),
+        Ok(Outcome::Absent) => rt.write_all(b"none\n"),
+        Err(refusal) => {
             rt.write_all(b"no ")?;
-            println!(rt; "{number}")
+            println!(rt; "{}", u64::from(refusal))
         }
     }
 }
@@ -82,11 +84,8 @@ fn write_hit(rt: &impl Print, start: u64, end: u64, value: u64) -> io::Result<()
 fn write_hits(rt: &impl Print, rows: &[u64], hits: usize) -> io::Result<()>
     requires { 3 * hits ≤ length rows.now }
 {
-    let mut i = 0;
-    while i < hits {
-        let at = 3 * i;
-        write_hit(rt, rows[at], rows[at + 1], rows[at + 2])?;
-        i += 1;
+    for row in rows.chunks_exact(3).take(hits) {
+        write_hit(rt, row[0], row[1], row[2])?;
     }
     rt.write_all(b"end ")?;
     println!(rt; "{hits}")
@@ -94,32 +93,41 @@ fn write_hits(rt: &impl Print, rows: &[u64], hits: usize) -> io::Result<()>
 
 // Whether the record at the front of the bytes is a query.
 fn is_query(bytes: &[u8]) -> bool {
-    bytes.len() > 0 && bytes[0] == 9
+    match bytes.first() {
+        Some(byte) => Kind::try_from(*byte) == Ok(Kind::Query),
+        None => false,
+    }
 }
 
-// Applies one record and writes its lines. Answers the record's number.
+// Applies one record and writes its lines. Answers whether to go on: not after 14 or 15, which leave no place where the
+// next record begins.
 fn serve_record(
     rt: &impl Print,
     words: &mut [u64],
     bytes: &[u8],
     rows: &mut [u64],
-) -> io::Result<u64>
+) -> io::Result<bool>
     requires { Ready words.old × (length rows.old ≡ 2400) }
     ensures { Ready words.new }
 {
-    let applied = record::apply(words, bytes, rows);
-    let number = applied.number;
-    let hits = applied.hits;
-    if number == 0 && is_query(bytes) {
-        write_hits(rt, rows, hits)?;
-    } else {
-        write_answer(rt, number)?;
+    match record::apply(words, bytes, rows) {
+        Ok(applied) if is_query(bytes) => {
+            write_hits(rt, rows, applied.hits)?;
+            Ok(true)
+        }
+        Ok(applied) => {
+            write_answer(rt, Ok(applied.outcome))?;
+            Ok(true)
+        }
+        Err(refusal) => {
+            write_answer(rt, Err(refusal))?;
+            Ok(!matches!(refusal, Refusal::UnknownKind | Refusal::CutShort))
+        }
     }
-    Ok(number)
 }
 
 // One record: reads it, applies it and writes its lines. Answers whether to go on: not after the end of the input, and
-// not after 14 or 15, which leave no place where the next record begins.
+// not after a record that leaves no place where the next one begins.
 fn turn(rt: &impl Print, input: &mut impl Read, words: &mut [u64]) -> io::Result<bool>
     requires { Ready words.old }
     ensures { Ready words.new }
@@ -130,19 +138,19 @@ fn turn(rt: &impl Print, input: &mut impl Read, words: &mut [u64]) -> io::Result
         return Ok(false);
     }
     let mut rows = [0u64; ROW_WORDS];
-    let number = serve_record(rt, words, &bytes[..n], &mut rows)?;
-    Ok(number != 14 && number != 15)
+    serve_record(rt, words, &bytes[..n], &mut rows)
 }
 
 // Formats the pool, then takes records while there are any. A proved loop has to end, and nothing says that the input
-// does: so the turns are counted down, from a number that no run uses up.
+// does: so the turns are counted, up to a number that no run reaches.
 fn survey(rt: &impl Print, input: &mut impl Read, words: &mut [u64]) -> io::Result<()>
     requires { length words.old ≡ 4804 }
 {
     pool::format(words);
-    let mut turns = u64::MAX;
-    while turns > 0 && turn(rt, input, words)? {
-        turns -= 1;
+    for _ in 0..u64::MAX {
+        if !turn(rt, input, words)? {
+            break;
+        }
     }
     Ok(())
 }

@@ -1,10 +1,9 @@
 -- The place of an entry that goes: what closes it, and which slot a delete takes off. Assumes nothing.
-use Prim.Native.Nat.{ℕ, ◌+◌, ◌%◌, ◌≤◌}
+use Prim.Native.Nat.{ℕ, ◌+◌, ◌≤◌}
 use mathlib.Core.List.{List, [], ◌∷◌, map, map-append}
 use mathlib.Core.Option.{some}
 use mathlib.Core.Path.{◌≡◌, refl, sym, ap, ◌∙◌}
 use native.Mathlib.Omega.{arith}
-use Rattle.rules.specs.Limits.{half}
 use Rattle.rules.specs.Range.{Range}
 use Rattle.rules.specs.Tree.{Entry, Tree, leaf, node, levels, entries}
 use Rattle.rules.specs.Balance.{left, balance}
@@ -19,6 +18,7 @@ use Rattle.rules.proofs.Ways.{Down, no_tree, at_root, to_left, to_right, down}
 use Rattle.node.specs.Node.{Hung}
 use Rattle.node.proofs.Trees.{kept_refl, bears-kept, rooted-kept, left-then}
 use Rattle.tree.specs.Edits.{Standing, Sheds, Pair}
+use Rattle.settle.specs.Settling.{root_of}
 use Rattle.tree.specs.declared.Removed.{Removed}
 use Rattle.tree.proofs.Hanging.{times-balance, not_none, not_node}
 use Rattle.tree.proofs.Shedding.{times_ended, bears-end}
@@ -44,7 +44,7 @@ close-left (node e l r) (node f c d) p h k = absurd (not_node p.right.rooted k)
 -- with both, the smallest entry of the right one is installed
 module _ {ss between : List ℕ} {a b : ℕ} {least : Removed} where
   installs : (t : Tree) (f : Entry) (c d : Tree) → Pair ss a b t (node f c d) → Sheds left least ss between (node f c d)
-      → Hung between least.slot a (least.top % half) (outermost left f (node f c d)) t (shed left (node f c d))
+      → Hung between least.slot a (root_of least.top) (outermost left f (node f c d)) t (shed left (node f c d))
   installs t f c d p shorter =
       let u = node f c d in
       let last = outermost left f u in
@@ -63,7 +63,7 @@ module _ {ss between : List ℕ} {a b : ℕ} {least : Removed} where
 
   pub close_hangs : (t u : Tree) → Pair ss a b t u → (a ≡ 0 → ⊥) → (b ≡ 0 → ⊥)
       → ((v : Tree) → Standing ss b v → 1 ≤ levels v → Sheds left least ss between v)
-      → (e : Entry) × (v : Tree) × (w : Tree) × Hung between least.slot a (least.top % half) e v w
+      → (e : Entry) × (v : Tree) × (w : Tree) × Hung between least.slot a (root_of least.top) e v w
   close_hangs t leaf p h k sheds = absurd (not_none p.right.rooted k)
   close_hangs t (node f c d) p h k sheds = (
     outermost left f (node f c d),
@@ -74,7 +74,7 @@ module _ {ss between : List ℕ} {a b : ℕ} {least : Removed} where
 
   pub close_both : {after : List ℕ} {top : ℕ} (t u : Tree) → Pair ss a b t u → (a ≡ 0 → ⊥) → (b ≡ 0 → ⊥)
       → ((v : Tree) → Standing ss b v → 1 ≤ levels v → Sheds left least ss between v)
-      → ((e : Entry) (v w : Tree) → Hung between least.slot a (least.top % half) e v w → Left between after top (balance e v w))
+      → ((e : Entry) (v w : Tree) → Hung between least.slot a (root_of least.top) e v w → Left between after top (balance e v w))
       → Left ss after top (close t u)
   close_both leaf u p h k sheds balanced = absurd (not_none p.left h)
   close_both (node e l r) leaf p h k sheds balanced = absurd (not_none p.right.rooted k)

@@ -4,24 +4,28 @@ use Prim.Native.Nat.{ℕ, suc, ◌+◌, ◌*◌, ◌%◌, ◌/◌, ◌≤◌, �
 use mathlib.Core.List.{List, [], ◌∷◌, map}
 use mathlib.Core.Path.{◌≡◌, refl, sym, ap, subst, ◌∙◌}
 use native.Mathlib.Omega.{arith}
-use mathlib.Core.Bool.{true, false}
 use Rattle.rules.specs.Limits.{slot_words, half}
-use Rattle.rules.specs.Range.{Range, range, Order, less, same, more, order, is_same}
+use Rattle.rules.specs.Range.{Range, range, Order, less, more, order}
 use Rattle.rules.specs.Tree.{Entry, Tree, leaf, node, levels, size, max_end}
 use Rattle.rules.specs.Balance.{Side, left, right, near, far, join, balance, balanced_join}
 use Rattle.rules.specs.Edit.{find}
 use Rattle.rules.specs.Pool.{times, slots}
-use Rattle.rules.specs.Stored.{slot_word, Within, Rooted, Left}
+use Rattle.rules.specs.Stored.{slot_word, Rooted, Left}
 use Rattle.rules.proofs.Times.{times-node, times-one}
 use Rattle.rules.proofs.Inorder.{entries-balance}
 use Rattle.node.specs.Node.{levels_at, Hung}
 use Rattle.node.proofs.Trees.{AtNode, at-node, at_root, bears-kept, rooted-kept, left-then}
 use Rattle.balance.proofs.Sides.{times_sides, rooted-near, rooted-far}
 use Rattle.balance.proofs.Rotated.{near_child, far_child}
-use Rattle.settle.specs.Settling.{differs, Settles, Over}
-use Rattle.settle.proofs.Settled.{slot_kept, level_kept}
+use Rattle.settle.specs.Settling.{differs, root_of, Settles, Over}
+use Rattle.settle.proofs.Changed.{slot_kept, level_kept}
 use Rattle.rules.proofs.Balanced.{Close, Balanced, both, Close_sides, of_near, balanced→Balanced, Balanced→balanced}
-use Rattle.tree.specs.Edits.{side_to, Standing}
+use Rattle.balance.specs.declared.Side as code
+use Rattle.balance.specs.declared.Side.TheVariants.{Left as OnLeft, Right as OnRight}
+use Rattle.balance.specs.Sides.{side_of}
+use Rattle.settle.specs.declared.Settled.{Settled}
+use Rattle.tree.specs.Edits.{way_of, Standing}
+use Rattle.std.specs.Prelude.{Some}
 
 -- which way the order sends a search
 abbrev pub way : Side → Order
@@ -51,10 +55,6 @@ not_none p h = h (sym p.rooted)
 
 pub not_node : {ss : List ℕ} {k : ℕ} {e : Entry} {l r : Tree} → Rooted ss k (node e l r) → k ≡ 0 → ⊥
 not_node p h = let at = (at-node p).at in omega arith
-
-pub at_slot : {ss : List ℕ} {k : ℕ} (t : Tree) → Rooted ss k t → (k ≡ 0 → ⊥) → Within ss k
-at_slot leaf p h = absurd (not_none p h)
-at_slot (node e l r) p h = (at-node p).at
 
 -- the range that was read in a node's slot is its entry's
 pub range-read : {ss : List ℕ} {k : ℕ} {e : Entry} {l r : Tree} → AtNode ss k e l r
@@ -143,13 +143,13 @@ module _ (s : Side) {ss : List ℕ} {k a b : ℕ} {e : Entry} {l r : Tree} (p : 
         → Left ss after top (balanced_join s e t (far s l r))
     settled done = left-then changed done (λ x absent. omega (arith, times-balanced_join x s e t (far s l r)))
 
-    pub resettled : {after : List ℕ} {top : ℕ} {w : Tree}
+    pub resettled : {after : List ℕ} {top : Settled} {w : Tree}
         → Settles top between after (levels (join s e (near s l r) (far s l r))) (balanced_join s e t (far s l r))
         → balanced_join s e t (far s l r) ≡ w
         → Settles top ss after (levels (node e l r)) w
     resettled {after} {top} up whole =
         record {
-          left = subst (λ (u : Tree). Left ss after (top % half) u) whole (settled up.left);
+          left = subst (λ (u : Tree). Left ss after (root_of top) u) whole (settled up.left);
           moved_is =
               up.moved_is
               ∙ ap (λ (y : Tree). differs (levels y) (levels (balanced_join s e t (far s l r)))) (sym (join_sides s e l r))
@@ -186,14 +186,7 @@ pub turns : {s : Side} {key : Range} {ss : List ℕ} {k a b : ℕ} {e : Entry} {
     → order key e.range ≡ way s
 turns w at = rw (range-read at) at w.way_is
 
--- an order that is not the same sends a search to its side
-pub way-told : {s : Side} (o : Order) → is_same o ≡ false → s ≡ side_to o → o ≡ way s
-way-told less p q = rw q refl
-way-told same p q = let z : ◌≡◌ {A = ℕ} 0 1 = cc in absurd (omega arith)
-way-told more p q = rw q refl
-
--- and one that is the same ends it
-pub same-told : (o : Order) → is_same o ≡ true → o ≡ same
-same-told same h = refl
-same-told less h = cc
-same-told more h = cc
+-- what was told of the order, by a side to which it sends a search
+pub way-told : {o : Order} (s : code.Side) → way_of (Some s) ≡ o → o ≡ way (side_of s)
+way-told OnLeft q = sym q
+way-told OnRight q = sym q

@@ -1,27 +1,28 @@
 -- An insert in slots: what each of its calls is given, and what they leave. Assumes nothing.
-use Prim.Native.Nat.{ℕ, ◌+◌, ◌*◌, ◌%◌, ◌≤◌, ◌<◌}
+use Prim.Native.Nat.{ℕ, ◌+◌, ◌≤◌, ◌<◌}
 use mathlib.Core.List.{List, [], ◌∷◌}
-use mathlib.Core.Option.{none, some}
+use mathlib.Core.Option.{none}
 use mathlib.Core.Path.{◌≡◌, refl, sym, ◌∙◌}
 use mathlib.Core.Logic.{⊎_elim}
 use native.Mathlib.Omega.{arith}
-use Rattle.rules.specs.Limits.{half}
 use Rattle.rules.specs.Range.{range, same, order}
-use Rattle.rules.specs.Tree.{Entry, Tree, leaf, node, levels, size}
+use Rattle.rules.specs.Tree.{Entry, Tree, leaf, node, levels}
 use Rattle.rules.specs.Balance.{Side, left, right, near, far, join, balanced_join}
 use Rattle.rules.specs.Edit.{find, insert}
 use Rattle.rules.specs.Pool.{times, slots}
-use Rattle.rules.specs.Stored.{slot_word, Rooted, Left}
+use Rattle.rules.specs.Stored.{slot_word, Left}
 use Rattle.rules.proofs.Tests.{eq_cases}
 use Rattle.rules.proofs.Times.{times-node, times-apart, times-most-once}
 use Rattle.rules.proofs.Ways.{Down, no_tree, to_left, to_right, down}
 use Rattle.rules.proofs.Ways as ways
-use Rattle.node.specs.Node.{levels_at, Slot}
+use Rattle.node.specs.Node.{levels_at}
 use Rattle.node.proofs.Trees.{at-node}
-use Rattle.settle.proofs.Settled.{settles_moved}
+use Rattle.settle.proofs.Changed.{settles_moved}
 use Rattle.balance.proofs.Sides.{times_sides}
 use Rattle.tree.specs.Edits.{Inserting, Inserts}
-use Rattle.settle.specs.Settling.{Settles, Gaining}
+use Rattle.settle.specs.Settling.{root_of, still, moved, Settles, Gaining}
+use Rattle.settle.specs.declared.Settled.{Settled}
+use Rattle.std.specs.Prelude.{Some, None}
 use Rattle.rules.proofs.Balanced.{balanced→Balanced}
 use Rattle.rules.proofs.Edits.{Grown-insert}
 use Rattle.rules.proofs.Counted.{found_not_none, insert-more}
@@ -50,54 +51,22 @@ insert-way : (s : Side) (x e : Entry) (l r : Tree) → order x.range e.range ≡
 insert-way left x e l r p = rw p refl
 insert-way right x e l r p = rw p refl
 
--- the slot of a new node is one of these words
-pub new_slot : {ss : List ℕ} {k new : ℕ} {t : Tree} → Inserting ss k new t → Slot ss new
-new_slot p = record { room = p.standing.rooted.room; at = p.within }
-
--- a slot that is not none is answered where there is a tree
-not_answered : {ss : List ℕ} {k : ℕ} (t : Tree) → Rooted ss k t → 1 ≤ size t → k ≡ 0 → ⊥
-not_answered leaf p more h = omega arith
-not_answered (node e l r) p more h = not_node p h
-
-low-none : {r : ℕ} → r ≡ 0 → r % half ≡ 0
-low-none h = omega arith
-
--- the rules' tree is left
-puts : {r : ℕ} {ss after : List ℕ} {x : Entry} (t : Tree) → find x.range t ≡ none
-    → Settles r ss after (levels t) (insert x t)
-    → Inserts r ss after x t
-puts {x = x} t new done =
-    record {
-      there = λ h. absurd (not_answered (insert x t) done.left.rooted (let more = (insert-more x t new).size_is in omega arith) (low-none h));
-      put = λ h. (new, done);
-    }
-
--- nothing changed
-stays : {r : ℕ} {ss after : List ℕ} {x : Entry} (t : Tree) {old : Entry} → r ≡ 0 → find x.range t ≡ some old
-    → after ≡ ss
-    → Inserts r ss after x t
-stays t {old} is found kept = record { there = λ h. ((old, found), kept); put = λ h. absurd (h is) }
-
 -- where there is no tree, the new node is the tree
 pub into_none : {ss after : List ℕ} {k : ℕ} (x : Entry) (t : Tree) → k ≡ 0 → Inserting ss k x.slot t
     → Left ss after x.slot (node x leaf leaf)
-    → {r : ℕ} → r ≡ x.slot + half * 1
-    → Inserts r ss after x t
-into_none x leaf h p made is = puts leaf refl (settles_moved made (λ z. omega arith) is)
+    → {r : Settled} → r ≡ moved x.slot
+    → Inserts (Some r) ss after x t
+into_none x leaf h p made is = (refl, settles_moved made (λ z. omega arith) is)
 into_none x (node e l r) h p made is = absurd (not_node p.standing.rooted h)
-
--- a slot's number leaves room for the mark of a height
-pub new_small : {ss : List ℕ} {k new : ℕ} {t : Tree} → Inserting ss k new t → new < half
-new_small p = let room = p.standing.rooted.room in let at = p.within.inside in omega arith
 
 -- "an equal range keeps the old value and the new one is dropped"
 pub into_there : {ss : List ℕ} {k : ℕ} (x : Entry) (t : Tree) → (k ≡ 0 → ⊥) → Inserting ss k x.slot t
     → order x.range (range (slot_word ss k 0) (slot_word ss k 1)) ≡ same
-    → Inserts 0 ss ss x t
+    → Inserts None ss ss x t
 into_there x leaf h p o = absurd (not_none p.standing.rooted h)
 into_there x (node e l r) h p o =
     let equal : order x.range e.range ≡ same = rw (range-read (at-node p.standing.rooted)) at o in
-    stays (node e l r) {old = e} refl (rw equal refl) refl
+    ((e, rw equal refl), refl)
 
 -- Down into the child a on the side, whose other child is b.
 module _ (x : Entry) {s : Side} {ss : List ℕ} {k a b : ℕ} (w : Turn s x.range ss k a b) where
@@ -118,13 +87,13 @@ module _ (x : Entry) {s : Side} {ss : List ℕ} {k a b : ℕ} (w : Turn s x.rang
       (falls s p.standing.rooted below.standing.rooted, (near s l r, below))
 
   -- the range was there below
-  pub there_below : {between : List ℕ} {below : ℕ} (t : Tree) → Inserting ss k x.slot t → below ≡ 0
-      → ((u : Tree) → Inserting ss a x.slot u → Inserts below ss between x u)
-      → Inserts 0 ss between x t
-  there_below leaf p is done = absurd (not_none p.standing.rooted w.there)
-  there_below (node e l r) p is done =
-      let found = (done (near s l r) (inserting_near p)).there is in
-      stays (node e l r) refl (sym (find-way s x.range e l r (turns w (at-node p.standing.rooted))) ∙ found.0.1) found.1
+  pub there_below : {between : List ℕ} (t : Tree) → Inserting ss k x.slot t
+      → ((u : Tree) → Inserting ss a x.slot u → Inserts None ss between x u)
+      → Inserts None ss between x t
+  there_below leaf p done = absurd (not_none p.standing.rooted w.there)
+  there_below (node e l r) p done =
+      let found = done (near s l r) (inserting_near p) in
+      ((found.0.0, sym (find-way s x.range e l r (turns w (at-node p.standing.rooted))) ∙ found.0.1), found.1)
 
   -- no slot of the parts is counted twice after the insert below
   apart_below : {e : Entry} {l r : Tree} → Inserting ss k x.slot (node e l r) → find x.range (near s l r) ≡ none
@@ -139,15 +108,15 @@ module _ (x : Entry) {s : Side} {ss : List ℕ} {k a b : ℕ} (w : Turn s x.rang
       (λ other. omega (arith, times-apart y x.slot other.0))
       (eq_cases y x.slot)
 
-  module _ {between : List ℕ} {below : ℕ} (answered : below ≡ 0 → ⊥)
-      (done : (u : Tree) → Inserting ss a x.slot u → Inserts below ss between x u) where
+  module _ {between : List ℕ} {below : Settled}
+      (done : (u : Tree) → Inserting ss a x.slot u → Inserts (Some below) ss between x u) where
     put_below : {e : Entry} {l r : Tree} → Inserting ss k x.slot (node e l r)
         → (find x.range (near s l r) ≡ none) × Settles below ss between (levels (near s l r)) (insert x (near s l r))
-    put_below {l = l} {r} p = (done (near s l r) (inserting_near p)).put answered
+    put_below {l = l} {r} p = done (near s l r) (inserting_near p)
 
     -- the child has one more entry
     gains : {e : Entry} {l r : Tree} → Inserting ss k x.slot (node e l r)
-        → Gaining s between k (below % half) x.range.end e (near s l r) (insert x (near s l r)) (far s l r)
+        → Gaining s between k (root_of below) x.range.end e (near s l r) (insert x (near s l r)) (far s l r)
     gains {e} {l} {r} p =
         let at = at-node p.standing.rooted in
         let told = put_below p in
@@ -165,30 +134,31 @@ module _ (x : Entry) {s : Side} {ss : List ℕ} {k a b : ℕ} (w : Turn s x.rang
         }
 
     -- what is left where the node over the child is settled
-    lifts : {after : List ℕ} {top : ℕ} {e : Entry} {l r : Tree} → Inserting ss k x.slot (node e l r)
+    lifts : {after : List ℕ} {top : Settled} {e : Entry} {l r : Tree} → Inserting ss k x.slot (node e l r)
         → Settles top between after (levels (join s e (near s l r) (far s l r))) (balanced_join s e (insert x (near s l r)) (far s l r))
-        → Inserts top ss after x (node e l r)
+        → Inserts (Some top) ss after x (node e l r)
     lifts {e = e} {l} {r} p up =
         let at = at-node p.standing.rooted in
-        let told = put_below p in
-        puts (node e l r) (sym (find-way s x.range e l r (turns w at)) ∙ told.0)
-        (resettled s at w.near_is w.far_is told.1.left (apart_below p told.0) up (insert-way s x e l r (turns w at)))
+        let told = put_below p in (
+          sym (find-way s x.range e l r (turns w at)) ∙ told.0,
+          resettled s at w.near_is w.far_is told.1.left (apart_below p told.0) up (insert-way s x e l r (turns w at)),
+        )
 
     -- the child is another one, or as high as another: the node is raised
     pub hangs : (t : Tree) → Inserting ss k x.slot t
-        → (e : Entry) × (u : Tree) × (v : Tree) × (y : Tree) × Gaining s between k (below % half) x.range.end e u v y
+        → (e : Entry) × (u : Tree) × (v : Tree) × (y : Tree) × Gaining s between k (root_of below) x.range.end e u v y
     hangs leaf p = absurd (not_none p.standing.rooted w.there)
     hangs (node e l r) p = (e, near s l r, insert x (near s l r), far s l r, gains p)
 
-    pub raised_above : {after : List ℕ} {top : ℕ} (t : Tree) → Inserting ss k x.slot t
-        → ((e : Entry) (u v y : Tree) → Gaining s between k (below % half) x.range.end e u v y
+    pub raised_above : {after : List ℕ} {top : Settled} (t : Tree) → Inserting ss k x.slot t
+        → ((e : Entry) (u v y : Tree) → Gaining s between k (root_of below) x.range.end e u v y
         → Settles top between after (levels (join s e u y)) (balanced_join s e v y))
-        → Inserts top ss after x t
+        → Inserts (Some top) ss after x t
     raised_above leaf p raised = absurd (not_none p.standing.rooted w.there)
     raised_above (node e l r) p raised = lifts p (raised e (near s l r) (insert x (near s l r)) (far s l r) (gains p))
 
     -- the child kept its slot and its height: the entry is counted
-    module _ (kept : below ≡ a) where
+    module _ (kept : below.word ≡ a) where
       gains_kept : {e : Entry} {l r : Tree} → Inserting ss k x.slot (node e l r)
           → Gaining s between k (near_child s between k) x.range.end e (near s l r) (insert x (near s l r)) (far s l r)
           × (levels (insert x (near s l r)) ≡ levels (near s l r))
@@ -196,8 +166,8 @@ module _ (x : Entry) {s : Side} {ss : List ℕ} {k a b : ℕ} (w : Turn s x.rang
           let at = at-node p.standing.rooted in
           let told = put_below p in
           let apart = apart_below p told.0 in (
-            rw (in_place s at w.near_is w.far_is told.1.left apart below refl kept) at (gains p),
-            as_high s at w.near_is w.far_is told.1.left apart below refl kept told.1.moved_is,
+            rw (in_place s at w.near_is w.far_is told.1.left apart below.word refl kept) at (gains p),
+            as_high s at w.near_is w.far_is told.1.left apart below.word refl kept told.1.moved_is,
           )
 
       pub counts_above : (t : Tree) → Inserting ss k x.slot t
@@ -206,10 +176,11 @@ module _ (x : Entry) {s : Side} {ss : List ℕ} {k a b : ℕ} (w : Turn s x.rang
       counts_above (node e l r) p =
           let g = gains_kept p in (s, e, near s l r, insert x (near s l r), far s l r, g.0, g.1)
 
-      pub counted_above : {after : List ℕ} (t : Tree) → Inserting ss k x.slot t
+      pub counted_above : {after : List ℕ} {top : Settled} (t : Tree) → Inserting ss k x.slot t
           → ((z : Side) (e : Entry) (u v y : Tree) → Gaining z between k (near_child z between k) x.range.end e u v y → levels v ≡ levels u
-          → Settles k between after (levels (join z e u y)) (balanced_join z e v y))
-          → Inserts k ss after x t
-      counted_above leaf p counted = absurd (not_none p.standing.rooted w.there)
-      counted_above (node e l r) p counted =
-          let g = gains_kept p in lifts p (counted s e (near s l r) (insert x (near s l r)) (far s l r) g.0 g.1)
+          → Settles (still k) between after (levels (join z e u y)) (balanced_join z e v y))
+          → top ≡ still k
+          → Inserts (Some top) ss after x t
+      counted_above leaf p counted is = absurd (not_none p.standing.rooted w.there)
+      counted_above (node e l r) p counted is =
+          let g = gains_kept p in rw is (lifts p (counted s e (near s l r) (insert x (near s l r)) (far s l r) g.0 g.1))

@@ -1,10 +1,9 @@
 -- A delete goes down by the order and settles on its way up: what each call is given and leaves. Assumes nothing.
-use Prim.Native.Nat.{ℕ, ◌+◌, ◌%◌, ◌≤◌, ◌<◌, max}
+use Prim.Native.Nat.{ℕ, ◌+◌, ◌≤◌, ◌<◌, max}
 use mathlib.Core.List.{List, [], ◌∷◌}
 use mathlib.Core.Option.{none, some}
 use mathlib.Core.Path.{◌≡◌, refl, sym, ap, ◌∙◌}
 use native.Mathlib.Omega.{arith}
-use Rattle.rules.specs.Limits.{half}
 use Rattle.rules.specs.Range.{Range, range, same, order}
 use Rattle.rules.specs.Tree.{Entry, Tree, leaf, node, levels, max_end}
 use Rattle.rules.specs.Balance.{Side, left, right, near, far, join, balanced_join}
@@ -19,7 +18,8 @@ use Rattle.tree.specs.declared.Removed.{Removed}
 use Rattle.rules.proofs.Balanced.{balanced→Balanced}
 use Rattle.rules.proofs.Edits.{Shrunk-delete}
 use Rattle.rules.proofs.Counted.{delete-less}
-use Rattle.settle.specs.Settling.{Settles, Losing}
+use Rattle.settle.specs.Settling.{root_of, still, Settles, Losing}
+use Rattle.settle.specs.declared.Settled.{Settled}
 use Rattle.tree.proofs.Hanging.{parts, way, find-way, not_none, not_node, range-read, near_rooted, parts_once, in_place, as_high, over_yet, resettled, standing-near, falls, Turn, turns}
 use Rattle.tree.proofs.Deleting.{times_deleted, found-range}
 
@@ -38,12 +38,12 @@ goes {e = e} from_one found is done = record { absent = λ h. absurd (omega arit
 
 -- nothing changed
 stays : {ss after : List ℕ} {key : Range} {t : Tree} → find key t ≡ none → after ≡ ss
-    → Deletes (record { top = 0; slot = 0 }) ss after key t
+    → Deletes (record { top = still 0; slot = 0 }) ss after key t
 stays found kept = record { absent = λ h. (found, kept, refl); gone = λ h. absurd (h refl) }
 
 -- in no tree there is nothing
 pub from-none : {ss : List ℕ} {k : ℕ} (key : Range) (t : Tree) → k ≡ 0 → Rooted ss k t
-    → Deletes (record { top = 0; slot = 0 }) ss ss key t
+    → Deletes (record { top = still 0; slot = 0 }) ss ss key t
 from-none key leaf h p = stays refl refl
 from-none key (node e l r) h p = absurd (not_node p h)
 
@@ -58,12 +58,7 @@ module _ {ss : List ℕ} {k a b : ℕ} (a_is : a ≡ near_child left ss k) (b_is
         once = λ x. omega (arith, at.once x);
       }
 
-pub is_node : {ss : List ℕ} {k : ℕ} (t : Tree) → Standing ss k t → (k ≡ 0 → ⊥)
-    → (e : Entry) × (l : Tree) × (r : Tree) × Standing ss k (node e l r)
-is_node leaf p h = absurd (not_none p.rooted h)
-is_node (node e l r) p h = (e, l, r, p)
-
-pub goes_itself : (key : Range) {ss after : List ℕ} {k top : ℕ} (t : Tree) → Standing ss k t → (k ≡ 0 → ⊥)
+pub goes_itself : (key : Range) {ss after : List ℕ} {k : ℕ} {top : Settled} (t : Tree) → Standing ss k t → (k ≡ 0 → ⊥)
     → order key (range (slot_word ss k 0) (slot_word ss k 1)) ≡ same
     → ((e : Entry) (l r : Tree) → Standing ss k (node e l r) → Settles top ss after (levels (node e l r)) (close l r))
     → Deletes (record { top = top; slot = k }) ss after key t
@@ -86,11 +81,12 @@ module _ (key : Range) {s : Side} {ss : List ℕ} {k a b : ℕ} (w : Turn s key 
 
   pub absent_below : {between : List ℕ} {below : Removed} (t : Tree) → Standing ss k t → below.slot ≡ 0
       → ((u : Tree) → Standing ss a u → Deletes below ss between key u)
-      → Deletes (record { top = 0; slot = 0 }) ss between key t
+      → Deletes below ss between key t
   absent_below leaf p is done = absurd (not_none p.rooted w.there)
   absent_below (node e l r) p is done =
       let looked = (done (near s l r) (below_stands p)).absent is in
-      stays (sym (find-way s key e l r (turns w (at-node p.rooted))) ∙ looked.0) looked.1
+      let absent = sym (find-way s key e l r (turns w (at-node p.rooted))) ∙ looked.0 in
+      record { absent = λ h. (absent, looked.1, looked.2); gone = λ h. absurd (h is) }
 
   apart_gone : {e f : Entry} {l r : Tree} → AtNode ss k e l r → find key (near s l r) ≡ some f
       → (x : ℕ) → times x (e.slot ∷ []) + (times x (slots (delete key (near s l r))) + times x (slots (far s l r))) ≤ 1
@@ -105,7 +101,7 @@ module _ (key : Range) {s : Side} {ss : List ℕ} {k a b : ℕ} (w : Turn s key 
 
     -- the child has one entry less
     loses : {e : Entry} {l r : Tree} → Standing ss k (node e l r)
-        → Losing s between k (below.top % half) key.end e (near s l r) (delete key (near s l r)) (far s l r)
+        → Losing s between k (root_of below.top) key.end e (near s l r) (delete key (near s l r)) (far s l r)
     loses {e} {l} {r} p =
         let at = at-node p.rooted in
         let told = went p in
@@ -122,7 +118,7 @@ module _ (key : Range) {s : Side} {ss : List ℕ} {k a b : ℕ} (w : Turn s key 
         }
 
     -- what is left where the node over the child is settled
-    lifts : {after : List ℕ} {top : ℕ} {e : Entry} {l r : Tree} → Standing ss k (node e l r)
+    lifts : {after : List ℕ} {top : Settled} {e : Entry} {l r : Tree} → Standing ss k (node e l r)
         → Settles top between after (levels (join s e (near s l r) (far s l r))) (balanced_join s e (delete key (near s l r)) (far s l r))
         → Deletes (record { top = top; slot = below.slot }) ss after key (node e l r)
     lifts {e = e} {l} {r} p up =
@@ -139,12 +135,12 @@ module _ (key : Range) {s : Side} {ss : List ℕ} {k a b : ℕ} (w : Turn s key 
 
     -- the child is another one, or as high as another: the node is lowered
     pub hangs_gone : (t : Tree) → Standing ss k t
-        → (e : Entry) × (u : Tree) × (v : Tree) × (y : Tree) × Losing s between k (below.top % half) key.end e u v y
+        → (e : Entry) × (u : Tree) × (v : Tree) × (y : Tree) × Losing s between k (root_of below.top) key.end e u v y
     hangs_gone leaf p = absurd (not_none p.rooted w.there)
     hangs_gone (node e l r) p = (e, near s l r, delete key (near s l r), far s l r, loses p)
 
-    pub lowered_above : {after : List ℕ} {top : ℕ} (t : Tree) → Standing ss k t
-        → ((e : Entry) (u v y : Tree) → Losing s between k (below.top % half) key.end e u v y
+    pub lowered_above : {after : List ℕ} {top : Settled} (t : Tree) → Standing ss k t
+        → ((e : Entry) (u v y : Tree) → Losing s between k (root_of below.top) key.end e u v y
         → Settles top between after (levels (join s e u y)) (balanced_join s e v y))
         → Deletes (record { top = top; slot = below.slot }) ss after key t
     lowered_above leaf p lowered = absurd (not_none p.rooted w.there)
@@ -152,7 +148,7 @@ module _ (key : Range) {s : Side} {ss : List ℕ} {k a b : ℕ} (w : Turn s key 
         lifts p (lowered e (near s l r) (delete key (near s l r)) (far s l r) (loses p))
 
     -- the child kept its slot and its height: the entry is taken off the count
-    module _ (kept : below.top ≡ a) where
+    module _ (kept : below.top.word ≡ a) where
       loses_kept : {e : Entry} {l r : Tree} → Standing ss k (node e l r)
           → Losing s between k (near_child s between k) key.end e (near s l r) (delete key (near s l r)) (far s l r)
           × (levels (delete key (near s l r)) ≡ levels (near s l r))
@@ -160,8 +156,8 @@ module _ (key : Range) {s : Side} {ss : List ℕ} {k a b : ℕ} (w : Turn s key 
           let at = at-node p.rooted in
           let told = went p in
           let apart = apart_gone at told.0.1 in (
-            rw (in_place s at w.near_is w.far_is told.1.left apart below.top refl kept) at (loses p),
-            as_high s at w.near_is w.far_is told.1.left apart below.top refl kept told.1.moved_is,
+            rw (in_place s at w.near_is w.far_is told.1.left apart below.top.word refl kept) at (loses p),
+            as_high s at w.near_is w.far_is told.1.left apart below.top.word refl kept told.1.moved_is,
           )
 
       pub discounts_above : (t : Tree) → Standing ss k t
@@ -170,10 +166,11 @@ module _ (key : Range) {s : Side} {ss : List ℕ} {k a b : ℕ} (w : Turn s key 
       discounts_above (node e l r) p =
           let g = loses_kept p in (s, e, near s l r, delete key (near s l r), far s l r, g.0, g.1)
 
-      pub discounted_above : {after : List ℕ} (t : Tree) → Standing ss k t
+      pub discounted_above : {after : List ℕ} {top : Settled} (t : Tree) → Standing ss k t
           → ((z : Side) (e : Entry) (u v y : Tree) → Losing z between k (near_child z between k) key.end e u v y → levels v ≡ levels u
-          → Settles k between after (levels (join z e u y)) (balanced_join z e v y))
-          → Deletes (record { top = k; slot = below.slot }) ss after key t
-      discounted_above leaf p discounted = absurd (not_none p.rooted w.there)
-      discounted_above (node e l r) p discounted =
-          let g = loses_kept p in lifts p (discounted s e (near s l r) (delete key (near s l r)) (far s l r) g.0 g.1)
+          → Settles (still k) between after (levels (join z e u y)) (balanced_join z e v y))
+          → top ≡ still k
+          → Deletes (record { top = top; slot = below.slot }) ss after key t
+      discounted_above leaf p discounted is = absurd (not_none p.rooted w.there)
+      discounted_above (node e l r) p discounted is =
+          let g = loses_kept p in rw is (lifts p (discounted s e (near s l r) (delete key (near s l r)) (far s l r) g.0 g.1))

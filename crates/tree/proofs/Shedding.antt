@@ -1,5 +1,5 @@
 -- The removal of the outermost entry on a side, in slots: what its calls are given, and what they leave. Assumes nothing.
-use Prim.Native.Nat.{ℕ, ◌+◌, ◌*◌, ◌%◌, ◌≤◌, ◌<◌}
+use Prim.Native.Nat.{ℕ, ◌+◌, ◌≤◌, ◌<◌}
 use mathlib.Core.List.{List, [], ◌∷◌}
 use mathlib.Core.Path.{◌≡◌, refl, sym, ap, subst, ◌∙◌}
 use native.Mathlib.Omega.{arith}
@@ -16,8 +16,9 @@ use Rattle.rules.proofs.Counted.{OneMore, shed-less}
 use Rattle.rules.proofs.Searching.{times_shed}
 use Rattle.node.specs.Node.{levels_at}
 use Rattle.node.proofs.Trees.{at-node, at_root, kept_refl, within-kept}
-use Rattle.settle.specs.Settling.{Settles, Losing}
-use Rattle.settle.proofs.Settled.{settles_moved}
+use Rattle.settle.specs.Settling.{root_of, still, moved, Settles, Losing}
+use Rattle.settle.specs.declared.Settled.{Settled}
+use Rattle.settle.proofs.Changed.{settles_moved}
 use Rattle.balance.proofs.Rotated.{near_child, far_child}
 use Rattle.tree.specs.Edits.{end_slot, Standing, Sheds}
 use Rattle.tree.specs.declared.Removed.{Removed}
@@ -85,7 +86,7 @@ module _ (s : Side) {ss : List ℕ} {k a b : ℕ} (a_is : a ≡ near_child s ss 
   far_small leaf p tall = absurd (omega arith)
   far_small (node e l r) p tall = let small = (at_root (far_rooted s (at-node p) a_is b_is)).small in omega arith
 
-  pub sheds_last : {top : ℕ} (t : Tree) → Standing ss k t → 1 ≤ levels t → a ≡ 0 → top ≡ b + half * 1
+  pub sheds_last : {top : Settled} (t : Tree) → Standing ss k t → 1 ≤ levels t → a ≡ 0 → top ≡ moved b
       → Sheds s (record { top = top; slot = k }) ss ss t
   sheds_last leaf p tall h is = absurd (omega arith)
   sheds_last (node e l r) p tall h is =
@@ -137,7 +138,7 @@ module _ (s : Side) {ss : List ℕ} {k a b : ℕ} (a_is : a ≡ near_child s ss 
     module _ {end : ℕ} (end_is : end ≡ slot_word between below.slot 1) where
       -- the child has one entry less
       loses : {e : Entry} {l r : Tree} → Standing ss k (node e l r)
-          → Losing s between k (below.top % half) end e (near s l r) (shed s (near s l r)) (far s l r)
+          → Losing s between k (root_of below.top) end e (near s l r) (shed s (near s l r)) (far s l r)
       loses {e} {l} {r} p =
           let child = (child_stands p).rooted in
           let less = shorter p in
@@ -157,7 +158,7 @@ module _ (s : Side) {ss : List ℕ} {k a b : ℕ} (a_is : a ≡ near_child s ss 
           }
 
       -- what is left where the node over the child is settled
-      lifts : {after : List ℕ} {top : ℕ} {e : Entry} {l r : Tree} → Standing ss k (node e l r)
+      lifts : {after : List ℕ} {top : Settled} {e : Entry} {l r : Tree} → Standing ss k (node e l r)
           → Settles top between after (levels (join s e (near s l r) (far s l r))) (balanced_join s e (shed s (near s l r)) (far s l r))
           → Sheds s (record { top = top; slot = below.slot }) ss after (node e l r)
       lifts {e = e} {l} {r} p up =
@@ -170,12 +171,12 @@ module _ (s : Side) {ss : List ℕ} {k a b : ℕ} (a_is : a ≡ near_child s ss 
 
       -- the child is another one, or as high as another: the node is lowered
       pub hangs_shed : (t : Tree) → Standing ss k t → 1 ≤ levels t
-          → (e : Entry) × (u : Tree) × (v : Tree) × (y : Tree) × Losing s between k (below.top % half) end e u v y
+          → (e : Entry) × (u : Tree) × (v : Tree) × (y : Tree) × Losing s between k (root_of below.top) end e u v y
       hangs_shed leaf p tall = absurd (omega arith)
       hangs_shed (node e l r) p tall = (e, near s l r, shed s (near s l r), far s l r, loses p)
 
-      pub lowered_above : {after : List ℕ} {top : ℕ} (t : Tree) → Standing ss k t → 1 ≤ levels t
-          → ((e : Entry) (u v y : Tree) → Losing s between k (below.top % half) end e u v y
+      pub lowered_above : {after : List ℕ} {top : Settled} (t : Tree) → Standing ss k t → 1 ≤ levels t
+          → ((e : Entry) (u v y : Tree) → Losing s between k (root_of below.top) end e u v y
           → Settles top between after (levels (join s e u y)) (balanced_join s e v y))
           → Sheds s (record { top = top; slot = below.slot }) ss after t
       lowered_above leaf p tall lowered = absurd (omega arith)
@@ -183,7 +184,7 @@ module _ (s : Side) {ss : List ℕ} {k a b : ℕ} (a_is : a ≡ near_child s ss 
           lifts p (lowered e (near s l r) (shed s (near s l r)) (far s l r) (loses p))
 
       -- the child kept its slot and its height: the entry is taken off the count
-      module _ (kept : below.top ≡ a) where
+      module _ (kept : below.top.word ≡ a) where
         loses_kept : {e : Entry} {l r : Tree} → Standing ss k (node e l r)
             → Losing s between k (near_child s between k) end e (near s l r) (shed s (near s l r)) (far s l r)
             × (levels (shed s (near s l r)) ≡ levels (near s l r))
@@ -191,8 +192,8 @@ module _ (s : Side) {ss : List ℕ} {k a b : ℕ} (a_is : a ≡ near_child s ss 
             let at = at-node p.rooted in
             let less = (shorter p).settles in
             let apart = apart_out p.rooted (tall_near p) in (
-              rw (in_place s at a_is b_is less.left apart below.top refl kept) at (loses p),
-              as_high s at a_is b_is less.left apart below.top refl kept less.moved_is,
+              rw (in_place s at a_is b_is less.left apart below.top.word refl kept) at (loses p),
+              as_high s at a_is b_is less.left apart below.top.word refl kept less.moved_is,
             )
 
         pub discounts_above : (t : Tree) → Standing ss k t → 1 ≤ levels t
@@ -201,10 +202,11 @@ module _ (s : Side) {ss : List ℕ} {k a b : ℕ} (a_is : a ≡ near_child s ss 
         discounts_above (node e l r) p tall =
             let g = loses_kept p in (s, e, near s l r, shed s (near s l r), far s l r, g.0, g.1)
 
-        pub discounted_above : {after : List ℕ} (t : Tree) → Standing ss k t → 1 ≤ levels t
+        pub discounted_above : {after : List ℕ} {top : Settled} (t : Tree) → Standing ss k t → 1 ≤ levels t
             → ((z : Side) (e : Entry) (u v y : Tree) → Losing z between k (near_child z between k) end e u v y → levels v ≡ levels u
-            → Settles k between after (levels (join z e u y)) (balanced_join z e v y))
-            → Sheds s (record { top = k; slot = below.slot }) ss after t
-        discounted_above leaf p tall discounted = absurd (omega arith)
-        discounted_above (node e l r) p tall discounted =
-            let g = loses_kept p in lifts p (discounted s e (near s l r) (shed s (near s l r)) (far s l r) g.0 g.1)
+            → Settles (still k) between after (levels (join z e u y)) (balanced_join z e v y))
+            → top ≡ still k
+            → Sheds s (record { top = top; slot = below.slot }) ss after t
+        discounted_above leaf p tall discounted is = absurd (omega arith)
+        discounted_above (node e l r) p tall discounted is =
+            let g = loses_kept p in rw is (lifts p (discounted s e (near s l r) (shed s (near s l r)) (far s l r) g.0 g.1))

@@ -5,4 +5,5 @@ pub mod Stack
 pub mod Taking
 pub mod Onward
 pub mod Seeking
+pub mod Going
 pub mod Sound

@@ -8,14 +8,16 @@ use mathlib.Core.Option.{none, some}
 use mathlib.Core.Path.{◌≡◌, ◌∙◌}
 use native.Mathlib.Omega.{arith}
 use lib.ListN.{length, take}
+use Rattle.std.specs.Prelude.{Option as Maybe, Some, None}
 use borrow.Author.Tests.{lt-ltb, le-ltb}
 use Rattle.rules.specs.Limits.{most_pending, half}
 use Rattle.rules.specs.Range.{Range, range, overlaps}
 use Rattle.rules.specs.Tree.{Entry, Tree, node, levels, max_end, root}
-use Rattle.rules.specs.Steps.{Pending, step, step_at, Each, each_none, each_more}
+use Rattle.rules.specs.Steps.{Pending, Step, leave, step, step_at, Each, each_none, each_more}
 use Rattle.rules.specs.Stored.{slot_word, Within, Bears, Stored, live}
 use Rattle.rules.proofs.Overlap.{unbegun_misses}
 use Rattle.rules.proofs.Reading.{low_half, high_half, root-fits}
+use Rattle.walk.specs.declared.Place.{Place}
 use Rattle.walk.specs.Walk.{stack_of, top_of, Waits, Pends, Stands, Hit, no_hit, hit_in}
 use Rattle.walk.specs.Inside.{Fitting, Leads, leads}
 use Rattle.walk.proofs.Stack.{under_top, none_fits}
@@ -28,13 +30,13 @@ pub data Latest (ss stack : List ℕ) (n : ℕ) : ℕ → Pending → Type 0 whe
 
 -- where something is pending there is a latest
 pub take-latest :
-    {ss stack : List ℕ} {n top : ℕ} {p : Pending} → Stands ss stack n top p → (n ≡ 0 → ⊥)
-    → Latest ss stack (n - 1) top p
-take-latest {ss} {stack} {n} {top} s some-pending =
+    {ss stack : List ℕ} {place : Place} {p : Pending} → Stands ss stack place p → (place.pending ≡ 0 → ⊥)
+    → Latest ss stack (place.pending - 1) place.top p
+take-latest {ss} {stack} {place} s some-pending =
     go s.pends.each s.pends.counted s.pends.on_stack s.top_is
   where
-    go : {p : Pending} → Each (Waits ss) p → n ≡ length p → take n stack ≡ stack_of p → top ≡ top_of p
-        → Latest ss stack (n - 1) top p
+    go : {p : Pending} → Each (Waits ss) p → place.pending ≡ length p → take place.pending stack ≡ stack_of p
+        → place.top ≡ top_of p → Latest ss stack (place.pending - 1) place.top p
     go each_none counted on_stack top_is = absurd (some-pending counted)
     go (each_more {e} {l} {r} {p} w each) counted on_stack top_is =
         rw top_is
@@ -43,7 +45,7 @@ take-latest {ss} {stack} {n} {top} s some-pending =
           room = s.pends.room;
           long = s.pends.long;
           counted = omega arith;
-          on_stack = under_top stack n (node e l r) p counted on_stack;
+          on_stack = under_top stack place.pending (node e l r) p counted on_stack;
           each = each;
         }))
 
@@ -91,20 +93,31 @@ told {ss} {n = n} {e} {l} {r} {p} {start} {max} {links} w below read = go w.stor
 
 -- an entry is hit where the range in its slot overlaps the query
 hit-told :
-    {ss : List ℕ} {e : Entry} {h : ℕ} (q : Range) → Bears ss e
-    → h ≡ cond (overlaps (range (slot_word ss e.slot 0) (slot_word ss e.slot 1)) q) e.slot 0
+    {ss : List ℕ} {e : Entry} {h : Maybe ℕ} (q : Range) → Bears ss e
+    → h ≡ cond (overlaps (range (slot_word ss e.slot 0) (slot_word ss e.slot 1)) q) (Some e.slot) None
     → Hit ss h (cond (overlaps e.range q) (some e) none)
 hit-told {ss} {e} {h} q b is = go (overlaps e.range q) (rw (b.start_word, b.end_word) at is)
   where
-    go : (t : Bool) → h ≡ cond t e.slot 0 → Hit ss h (cond t (some e) none)
+    go : (t : Bool) → h ≡ cond t (Some e.slot) None → Hit ss h (cond t (some e) none)
     go true z = rw z (hit_in b)
     go false z = rw z no_hit
+
+module _ {ss stack : List ℕ} {n start max links : ℕ} where
+  -- the left child fits, whatever the query
+  pub left_found :
+      {top left : ℕ} {p : Pending} → Latest ss stack n top p → Read ss top start max links → left ≡ links % half
+      → (s : Step) × Leads ss stack n left 0 None s
+  left_found (latest {e} {l} {r} {p} w below) read left_is =
+      let t = told w below read in (
+        record { hit = none; pending = leave l p },
+        rw left_is (leads below t.left_fits (none_fits t.right_fits) no_hit),
+      )
 
 module _ {ss stack : List ℕ} {n start max links : ℕ} (q : Range) where
   -- the node is passed over: nothing is left pending or hit
   pub passed :
       {top : ℕ} {p : Pending} → Latest ss stack n top p → Read ss top start max links → max ≤ q.start
-      → Leads ss stack n 0 0 0 (step q p)
+      → Leads ss stack n 0 0 None (step q p)
   unfolding step_at
   passed (latest {e} {l} {r} w below) read h =
       let t = told w below read in
@@ -114,7 +127,7 @@ module _ {ss stack : List ℕ} {n start max links : ℕ} (q : Range) where
   -- its right subtree is skipped: the left child is left pending, and nothing is hit
   pub skipped :
       {top left : ℕ} {p : Pending} → Latest ss stack n top p → Read ss top start max links → q.start < max
-      → q.end ≤ start → left ≡ links % half → Leads ss stack n left 0 0 (step q p)
+      → q.end ≤ start → left ≡ links % half → Leads ss stack n left 0 None (step q p)
   unfolding step_at
   skipped (latest {e} {l} {r} w below) read sees h left_is =
       let t = told w below read in
@@ -129,9 +142,9 @@ module _ {ss stack : List ℕ} {n start max links : ℕ} (q : Range) where
 
   -- both children are left pending, and the node is hit where its range overlaps the query
   pub seen :
-      {top left right h : ℕ} {p : Pending} → Latest ss stack n top p → Read ss top start max links → q.start < max
+      {top left right : ℕ} {h : Maybe ℕ} {p : Pending} → Latest ss stack n top p → Read ss top start max links → q.start < max
       → start < q.end → left ≡ links % half → right ≡ links / half
-      → h ≡ cond (overlaps (range (slot_word ss top 0) (slot_word ss top 1)) q) top 0
+      → h ≡ cond (overlaps (range (slot_word ss top 0) (slot_word ss top 1)) q) (Some top) None
       → Leads ss stack n left right h (step q p)
   unfolding step_at
   seen (latest {e} {l} {r} w below) read sees begins left_is right_is hit-is =

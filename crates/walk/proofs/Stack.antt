@@ -10,10 +10,10 @@ use lib.ListN.{length, take, get_or, set, length-append, length-set}
 use lib.Seq.{get_or-take, take-take, take_at, get_or_at, take-suc-set}
 use Rattle.rules.specs.Limits.{most_slots, most_pending, slot_words}
 use Rattle.rules.specs.Tree.{Tree, leaf, levels, root}
-use Rattle.rules.specs.Steps.{Pending, leave, at_start, each_none, each_more}
+use Rattle.rules.specs.Steps.{Pending, leave, at_start, Each, each_none, each_more}
 use Rattle.rules.specs.Stored.{Stored, none, live}
 use Rattle.rules.proofs.Tests.{eq_cases}
-use Rattle.walk.specs.Walk.{stack_of, Pends, Stands, Walkable}
+use Rattle.walk.specs.Walk.{stack_of, Waits, Pends, Stands, Walkable}
 use Rattle.walk.specs.Inside.{Fitting}
 
 -- a word for each pending tree
@@ -42,13 +42,23 @@ module _ (stack : List ℕ) (n : ℕ) (t : Tree) (p : Pending) (counted : n ≡ 
       ∙ take_at (stack_of p) (root t ∷ []) (n - 1) below
 
 module _ {ss stack : List ℕ} {n : ℕ} where
+  -- no more are pending than there is room for
+  pub few_pending : {p : Pending} → Pends ss stack n p → n ≤ most_pending
+  few_pending h = go h.each h.counted
+    where
+      go : {p : Pending} → Each (Waits ss) p → n ≡ length p → n ≤ most_pending
+      go each_none counted = omega arith
+      go (each_more w each) counted = let fits = w.fits in omega arith
+
   -- where none is counted, none is pending
-  pub none_left : {p : Pending} → Pends ss stack n p → n ≡ 0 → Stands ss stack 0 0 p
-  none_left {p = []} h z = record { pends = rw z at h; top_is = refl }
+  pub none_left : {p : Pending} → Pends ss stack n p → n ≡ 0 → Stands ss stack (record { pending = n; top = 0 }) p
+  none_left {p = []} h z = record { pends = h; top_is = refl }
   none_left {p = t ∷ p} h z = let counted = h.counted in absurd (omega arith)
 
   -- where some are, the latest can be read from the stack
-  pub some_left : {p : Pending} → Pends ss stack n p → (n ≡ 0 → ⊥) → Stands ss stack n (get_or stack (n - 1) 0) p
+  pub some_left :
+      {p : Pending} → Pends ss stack n p → (n ≡ 0 → ⊥)
+      → Stands ss stack (record { pending = n; top = get_or stack (n - 1) 0 }) p
   some_left {p = []} h some = absurd (some h.counted)
   some_left {p = t ∷ p} h some = record { pends = h; top_is = on_top stack n t p h.counted h.on_stack }
 
@@ -68,11 +78,11 @@ module _ {ss : List ℕ} {n k : ℕ} {t : Tree} (c : Fitting ss n k t) where
   -- it is left pending above the others, as the latest
   pub left_latest :
       {stack : List ℕ} {m : ℕ} {p : Pending} → (k ≡ 0 → ⊥) → m ≤ n → Pends ss stack m p
-      → Stands ss (set stack m k) (suc m) k (leave t p)
+      → Stands ss (set stack m k) (record { pending = suc m; top = k }) (leave t p)
   left_latest {stack} {m} {p} some fewer h = go c.stored c.slot_is c.fits
     where
       go : {t : Tree} → Stored ss t → k ≡ root t → levels t + n ≤ most_pending
-          → Stands ss (set stack m k) (suc m) k (leave t p)
+          → Stands ss (set stack m k) (record { pending = suc m; top = k }) (leave t p)
       go none is fits = absurd (some is)
       go (live b w x y) is fits =
           let long = h.long in
@@ -105,7 +115,7 @@ none-pending room long = record { room = room; long = long; counted = refl; on_s
 -- at the start the root is pending, if there is one
 pub starts :
     {ss : List ℕ} {k : ℕ} {t : Tree} (stack : List ℕ) → Walkable ss k t → length stack ≡ most_pending
-    → Stands ss (set stack 0 k) (cond (eqb k 0) 0 (suc 0)) k (at_start t)
+    → Stands ss (set stack 0 k) (record { pending = cond (eqb k 0) 0 (suc 0); top = k }) (at_start t)
 starts {ss} {k} {t} stack w long =
     let low = w.low in
     let root : Fitting ss 0 k t =

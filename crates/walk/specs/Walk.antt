@@ -1,12 +1,13 @@
 -- What a walk promises: which pending trees of the rules its stack holds, what it hit, and which tree it can walk.
-use Rattle.std.specs.Prelude.{ℕ, zero, suc, ◌+◌, ◌*◌, ◌≤◌, true, List, [], ◌∷◌, ◌++◌, ◌≡◌, length, take}
+use Rattle.std.specs.Prelude.{ℕ, zero, suc, ◌+◌, ◌*◌, ◌/◌, ◌≤◌, true, List, [], ◌∷◌, ◌++◌, ◌≡◌, length, take, Option as Maybe, Some, None}
 use Rattle.std.proofs.Math.Option.{Option, none, some}
-use Rattle.rules.specs.Limits.{most_slots, most_pending, slot_words}
+use Rattle.rules.specs.Limits.{most_slots, most_pending, slot_words, half}
 use Rattle.rules.specs.Range.{Range}
 use Rattle.rules.specs.Tree.{Entry, Tree, levels, entries, root}
 use Rattle.rules.specs.Pool.{ascending}
 use Rattle.rules.specs.Steps.{Pending, Step, step, Each, total}
-use Rattle.rules.specs.Stored.{Bears, Stored, Rooted}
+use Rattle.rules.specs.Stored.{slot_word, Bears, Stored, Rooted}
+use Rattle.walk.specs.declared.Place.{Place}
 use Rattle.walk.specs.declared.After.{After}
 
 -- the slots of pending trees as a stack has them, the latest last
@@ -35,19 +36,19 @@ pub record Pends (ss stack : List ℕ) (count : ℕ) (p : Pending) : Type 0 wher
 
 -- Where a walk stands: the stack holds the pending trees, and `top` is the slot of the latest. By `on_stack` that is the
 -- last of the stack's first words.
-pub record Stands (ss stack : List ℕ) (count top : ℕ) (p : Pending) : Type 0 where
-  pub pends : Pends ss stack count p
-  pub top_is : top ≡ top_of p
+pub record Stands (ss stack : List ℕ) (place : Place) (p : Pending) : Type 0 where
+  pub pends : Pends ss stack place.pending p
+  pub top_is : place.top ≡ top_of p
 
--- what a slot number says of a hit: 0 that there is none, another that this slot holds the entry hit
-pub data Hit (ss : List ℕ) : ℕ → Option Entry → Type 0 where
-  no_hit : Hit ss 0 none
-  hit_in : {e : Entry} → Bears ss e → Hit ss e.slot (some e)
+-- what is said of a hit: that there is none, or the slot that holds the entry hit
+pub data Hit (ss : List ℕ) : Maybe ℕ → Option Entry → Type 0 where
+  no_hit : Hit ss None none
+  hit_in : {e : Entry} → Bears ss e → Hit ss (Some e.slot) (some e)
 
 -- the stack holds the nodes pending after the step, and the answer says their number, the latest's slot and what the step
 -- hit
 pub record Leaves (ss stack : List ℕ) (a : After) (s : Step) : Type 0 where
-  pub stands : Stands ss stack a.pending a.top s.pending
+  pub stands : Stands ss stack a.place s.pending
   pub hits : Hit ss a.hit s.hit
 
 -- a step that hit, or else what follows it
@@ -64,6 +65,11 @@ next_within (suc n) q p = until_hit (step q p).hit (step q p).pending (next_with
 -- entries pending are enough.
 unfoldable pub next : Range → Pending → Step
 next q p = next_within (total p) q p
+
+-- the entries of the trees in these slots, counted by the slots' shapes
+abbrev pub entries_at : List ℕ → List ℕ → ℕ
+entries_at ss [] = 0
+entries_at ss (k ∷ ks) = slot_word ss k 5 / half + entries_at ss ks
 
 -- a tree that can be walked: it is stored with its root in slot k, in order, and no higher than the stack has room for
 pub record Walkable (ss : List ℕ) (k : ℕ) (t : Tree) : Type 0 where

@@ -1,26 +1,35 @@
 // iterators.rs of the crate: the query walk, over slot numbers. The slots are lent as the words after the header, the
-// pending nodes as a stack of their slots.
+// pending nodes as a stack of their slots. The stack is lent beside where the walk stands, and not held in one struct with
+// it: what is beside it in memory is read and written there at each step, a fifth of a query's instructions.
 #![tactic(auto)]
 
-ghost use Rattle.std.specs.Prelude.{◌≡◌, cond, List, ℕ, suc, ◌<◌, eqb, set};
+ghost use Rattle.std.specs.Prelude.{◌≡◌, cond, List, ℕ, suc, ◌<◌, ◌≤◌, eqb, set, take, Some, None};
+ghost use Rattle.std.specs.Iterator.{at_most};
 ghost use Rattle.rules.specs.Limits.{most_pending};
 ghost use Rattle.rules.specs.Range.{range, overlaps};
-ghost use Rattle.rules.specs.Steps.{Pending, Step, step};
+ghost use Rattle.rules.specs.Tree.{Tree};
+ghost use Rattle.rules.specs.Steps.{Pending, step, at_start};
 ghost use Rattle.rules.specs.Stored.{slot_word, Within};
 ghost use Rattle.interval.specs.Interval.{range_of};
-ghost use Rattle.walk.specs.Walk.{Stands, Leaves, next};
-ghost use Rattle.walk.specs.Inside.{Leads};
+ghost use Rattle.walk.specs.Walk.{Stands, Leaves, next, entries_at, Walkable};
+ghost use Rattle.walk.specs.Inside.{place_below, place_with, stack_with};
 
 use interval::Interval;
-use node::word;
+use node::{LINKS, MAX, START, word};
 use rules::MOST_PENDING;
 
-// After a step: how many nodes are pending, the slot of the latest of them and the slot that was hit, each 0 for none.
+// Where a walk stands: how many nodes are pending, and the slot of the latest of them, 0 for none.
 #[derive(Clone, Copy)]
-pub struct After {
+pub struct Place {
     pub pending: usize,
     pub top: u64,
-    pub hit: u64,
+}
+
+// After a step: where the walk stands, and the slot that was hit.
+#[derive(Clone, Copy)]
+pub struct After {
+    pub place: Place,
+    pub hit: Option<u64>,
 }
 
 // Leaves the node in slot k pending above `pending` others, if there is one: how many are pending then.
@@ -32,136 +41,140 @@ pub fn leave(stack: &mut [u64; MOST_PENDING], pending: usize, k: u64) -> usize
     if k == 0 { pending } else { pending + 1 }
 }
 
-// Leaves nothing pending above `below` others, after a step that hit `hit`: the latest of these is the latest then.
-fn leave_none(stack: &[u64; MOST_PENDING], below: usize, hit: u64) -> After
-    requires { (ss : List ℕ) × (s : Step) × Leads ss stack.now below 0 0 hit s }
-    ensures { (ss : List ℕ) (s : Step) → Leads ss stack.now below 0 0 hit s → Leaves ss stack.now result s }
+// Where the walk of the tree from slot `root` on stands at the start: at the root, if there is one.
+pub fn start(stack: &mut [u64; MOST_PENDING], root: u64) -> Place
+    ensures { (ss : List ℕ) (t : Tree) → Walkable ss root t → Stands ss stack.new result (at_start t) }
 {
-    if below == 0 {
-        return After {
-            pending: 0,
-            top: 0,
-            hit,
-        };
+    let pending = leave(stack, 0, root);
+    Place { pending, top: root }
+}
+
+// Where the walk stands with the first `pending` nodes of the stack.
+fn below(stack: &[u64; MOST_PENDING], pending: usize) -> Place
+    requires { pending ≤ most_pending }
+    ensures { result ≡ place_below stack.now pending }
+{
+    if pending == 0 {
+        return Place { pending, top: 0 };
     }
-    let last = below - 1;
-    After {
-        pending: below,
-        top: stack[last],
-        hit,
+    Place {
+        pending,
+        top: stack[pending - 1],
     }
 }
 
-// Leaves the node in slot k pending above `below` others, if there is one, after a step that hit `hit`.
-fn leave_one(stack: &mut [u64; MOST_PENDING], below: usize, k: u64, hit: u64) -> After
-    requires { (ss : List ℕ) × (s : Step) × Leads ss stack.old below k 0 hit s }
-    ensures { (ss : List ℕ) (s : Step) → Leads ss stack.old below k 0 hit s → Leaves ss stack.new result s }
+// Leaves the child in slot k pending above the others, if there is one. Where there is none it stores nothing, unlike
+// `leave`: a store that isn't needed takes the walk half as many instructions again.
+fn leave_child(stack: &mut [u64; MOST_PENDING], others: Place, k: u64) -> Place
+    requires { (k ≡ 0 → ⊥) → others.pending < most_pending }
+    ensures { (stack.new ≡ stack_with stack.old others k) × (result ≡ place_with others k) }
 {
     if k == 0 {
-        return leave_none(stack, below, hit);
+        return others;
     }
-    stack[below] = k;
-    After {
-        pending: below + 1,
+    stack[others.pending] = k;
+    Place {
+        pending: others.pending + 1,
         top: k,
-        hit,
     }
 }
 
-// Leaves two nodes pending above `below` others, left before right, each if there is one, after a step that hit `hit`.
-fn leave_both(
-    stack: &mut [u64; MOST_PENDING],
-    below: usize,
-    left: u64,
-    right: u64,
-    hit: u64,
-) -> After
-    requires { (ss : List ℕ) × (s : Step) × Leads ss stack.old below left right hit s }
-    ensures { (ss : List ℕ) (s : Step) → Leads ss stack.old below left right hit s → Leaves ss stack.new result s }
-{
-    if right == 0 {
-        return leave_one(stack, below, left, hit);
-    }
-    if left == 0 {
-        return leave_one(stack, below, right, hit);
-    }
-    stack[below] = left;
-    stack[below + 1] = right;
-    After {
-        pending: below + 2,
-        top: right,
-        hit,
-    }
-}
-
-// The slot k, where the range in it overlaps the query, else 0.
-fn hit_at(slots: &[u64], k: u64, query: Interval) -> u64
+// The slot k, where the range in it overlaps the query.
+fn hit_at(slots: &[u64], k: u64, query: Interval) -> Option<u64>
     requires { Within slots.now k }
-    ensures { result ≡ cond (overlaps (range (slot_word slots.now k 0) (slot_word slots.now k 1)) (range_of query)) k 0 }
+    ensures { result ≡ cond (overlaps (range (slot_word slots.now k 0) (slot_word slots.now k 1)) (range_of query)) (Some k) None }
 {
     let here = node::interval_at(slots, k);
-    if here.overlaps(query) { k } else { 0 }
+    if here.overlaps(query) { Some(k) } else { None }
 }
 
 // One step: takes the latest pending node, which is in slot `top`, and leaves its children that aren't skipped pending,
 // left before right.
-pub fn step(
-    slots: &[u64],
-    stack: &mut [u64; MOST_PENDING],
-    pending: usize,
-    top: u64,
-    query: Interval,
-) -> After
-    requires { (p : Pending) × Stands slots.now stack.old pending top p }
-    ensures { (p : Pending) → Stands slots.now stack.old pending top p → Leaves slots.now stack.new result (step (range_of query) p) }
+pub fn step(slots: &[u64], stack: &mut [u64; MOST_PENDING], place: Place, query: Interval) -> After
+    requires { (p : Pending) × Stands slots.now stack.old place p }
+    ensures { (p : Pending) → Stands slots.now stack.old place p → Leaves slots.now stack.new result (step (range_of query) p) }
 {
-    if pending == 0 {
+    if place.pending == 0 {
+        return After { place, hit: None };
+    }
+    let others = below(stack, place.pending - 1);
+    let top = place.top;
+    let start = word(slots, top, START);
+    let max = word(slots, top, MAX);
+    let links = word(slots, top, LINKS);
+    if max <= query.start {
         return After {
-            pending: 0,
-            top: 0,
-            hit: 0,
+            place: others,
+            hit: None,
         };
     }
-    let below = pending - 1;
-    let start = word(slots, top, 0);
-    let max = word(slots, top, 3);
-    let links = word(slots, top, 4);
-    if max <= query.start {
-        return leave_none(stack, below, 0);
-    }
     let left = node::low(links);
+    let with_left = leave_child(stack, others, left);
     if query.end <= start {
-        return leave_one(stack, below, left, 0);
+        return After {
+            place: with_left,
+            hit: None,
+        };
     }
-    let right = node::high(links);
     let hit = hit_at(slots, top, query);
-    leave_both(stack, below, left, right, hit)
+    let right = node::high(links);
+    let with_both = leave_child(stack, with_left, right);
+    After {
+        place: with_both,
+        hit,
+    }
 }
 
-// The next hit: steps until one hits or nothing is pending.
-pub fn next(
-    slots: &[u64],
-    stack: &mut [u64; MOST_PENDING],
-    pending: usize,
-    top: u64,
-    query: Interval,
-) -> After
-    requires { (p : Pending) × Stands slots.now stack.old pending top p }
-    ensures { (p : Pending) → Stands slots.now stack.old pending top p → Leaves slots.now stack.new result (next (range_of query) p) }
-{
-    let mut left = pending;
-    let mut latest = top;
-    while left > 0 {
-        let after = step(slots, stack, left, latest, query);
-        if after.hit != 0 {
-            return after;
+// A walk on a lent stack: the slots that it reads, what is asked, the stack, and where it stands. It gives the slots that
+// are hit.
+#[derive(Drop)]
+pub struct Walk<'a, 'b> {
+    pub slots: &'a [u64],
+    pub query: Interval,
+    pub stack: &'b mut [u64; MOST_PENDING],
+    pub place: Place,
+}
+
+impl<'a, 'b> Iterator for Walk<'a, 'b> {
+    type Item = u64;
+
+    ghost can_next = { λ w. (p : Pending) × Stands w.slots.now w.stack.now w.place p };
+
+    ghost next_gives = { λ w hit left. (left.slots ≡ w.slots) × (left.query ≡ w.query) × (left.stack.ghost_name ≡ w.stack.ghost_name) × ((p : Pending) → Stands w.slots.now w.stack.now w.place p → Leaves w.slots.now left.stack.now (record { place = left.place; hit = hit }) (next (range_of w.query) p)) };
+
+    ghost remaining = { λ w. at_most (entries_at w.slots.now (take w.place.pending w.stack.now)) };
+
+    // The next hit: steps until one hits or nothing is pending. Where it stands is a local on the way, which stays in a
+    // register.
+    fn next(&mut self) -> Option<u64> {
+        let mut place = self.place;
+        while place.pending > 0 {
+            let after = step(self.slots, self.stack, place, self.query);
+            place = after.place;
+            if after.hit.is_some() {
+                self.place = place;
+                return after.hit;
+            }
         }
-        left = after.pending;
-        latest = after.top;
+        self.place = place;
+        None
     }
+}
+
+// The walk's next hit, for whoever has no struct that lends its stack: where it stands then.
+pub fn next(slots: &[u64], stack: &mut [u64; MOST_PENDING], place: Place, query: Interval) -> After
+    requires { (p : Pending) × Stands slots.now stack.old place p }
+    ensures { (p : Pending) → Stands slots.now stack.old place p → Leaves slots.now stack.new result (next (range_of query) p) }
+{
+    let mut walk = Walk {
+        slots,
+        query,
+        stack,
+        place,
+    };
+    let hit = walk.next();
     After {
-        pending: 0,
-        top: 0,
-        hit: 0,
+        place: walk.place,
+        hit,
     }
 }

@@ -27,31 +27,10 @@ left_is d =
 right_is : (d : After-low-2) → let a = d.args in d.low-2.result ≡ levels_at a.slots.now a.r
 right_is d = d.low-2.ensures ∙ apart_low _ d.shape_below-right.ensures (ready d.requires.3).right_low
 
-pub balance_factor-requires : goal.balance_factor-requires
-balance_factor-requires c =
-    let ok = ready c.requires.3 in
-    let left = ok.left_low in
-    let right = ok.right_low in
-    (omega (arith, left_is (goal.at.balance_factor-requires c).After-low-2), omega (arith, right_is (goal.at.balance_factor-requires c).After-low-2))
-
 -- so the factor that was told is the factor of these
 known : (d : After-balance_factor) {f : Factor} → d.balance_factor.result ≡ f
     → let a = d.args in factor (levels_at a.slots.now a.l) (levels_at a.slots.now a.r) ≡ f
 known d told = rw (← left_is d.before, ← right_is d.before) (sym d.balance_factor.ensures ∙ told)
-
-pub mend-requires : goal.mend-requires
-mend-requires c =
-    let p = c.requires in
-    (p.0, p.2, p.1, hung-turned p.3, some_level (right_too_high p.3 (known (goal.at.mend-requires c).After-balance_factor c.in-BelowMinusOne.is)))
-
-pub mend-requires-in-AboveOne : goal.mend-requires-in-AboveOne
-mend-requires-in-AboveOne c =
-    let p = c.requires in
-    (p.0, p.1, p.2, p.3, some_level (left_too_high p.3 (known (goal.at.mend-requires-in-AboveOne c).After-balance_factor c.in-AboveOne.is)))
-
-pub update_over-requires : goal.update_over-requires
-update_over-requires c =
-    (c.shape_below-left.ensures, c.shape_below-right.ensures, c.requires)
 
 pub returns-in-BelowMinusOne : goal.returns-in-BelowMinusOne
 returns-in-BelowMinusOne c e t u h =

@@ -5,11 +5,11 @@ use Rattle.fitting.proofs.fits_both.Goals as goal
 pub returns : goal.returns
 returns c =
     rw (
-      c.larger.ensures,
+      c.max.ensures,
       c.word-4.ensures,
       c.word-3.ensures,
       c.is_shape_over.ensures,
-      c.larger-below.ensures,
+      c.max-below.ensures,
       c.word-2.ensures,
       c.word.ensures,
       c.word-right.ensures,

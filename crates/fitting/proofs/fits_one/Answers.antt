@@ -10,7 +10,7 @@ returns c =
       c.high.ensures,
       c.low-2.ensures,
       c.low.ensures,
-      c.larger-max.ensures,
+      c.max-max.ensures,
       c.word-2.ensures,
       c.word.ensures,
       c.word-below.ensures,

@@ -10,7 +10,7 @@ returns c =
       c.high-3.ensures,
       c.high-2.ensures,
       c.high.ensures,
-      c.larger.ensures,
+      c.max.ensures,
       c.low.ensures,
       c.low-b.ensures,
       c.low-a.ensures,

@@ -1,27 +1,25 @@
 -- `edit` is the rules' entry for a request: the check first, then the sound pool's answer. Assumes nothing.
-use Prim.Native.Nat.{ℕ}
-use mathlib.Core.List.{List}
+use Rattle.request.proofs.Refused.{passed_on}
+use Rattle.guard.proofs.Guarded.{passed}
 use Rattle.rules.specs.Pool.{Pool, Holds}
 use Rattle.request.specs.Requests.{request_of}
-use Rattle.guard.proofs.Guarded.{passed}
 use Rattle.hindraloha.proofs.Answering.{edit_refused, edit_served}
 use Rattle.hindraloha.proofs.edit.Goals as goal
-use Rattle.hindraloha.proofs.edit.Goals.{Else-is_refusal}
+use Rattle.hindraloha.proofs.edit.Goals.{In_ok-check}
 
--- the pool's words where the check did not refuse them, and the pool that they hold
-abbrev ws : Else-is_refusal → List ℕ
-ws e = e.args.pool.now
+-- the pool that passed the check
+held : (d : In_ok-check) → (p : Pool) × Holds d.args.pool.now p
+held d = passed d.args.pool.now d.check.ensures d.in_ok-check.was
 
-held : (e : Else-is_refusal) → (p : Pool) × Holds (ws e) p
-held e = passed (ws e) e.check-number.ensures e.is_refusal.ensures e.if-is_refusal.false
-
-pub returns-then-is_refusal : goal.returns-then-is_refusal
-returns-then-is_refusal c =
-    edit_refused c.args.pool.now c.check-number.ensures c.is_refusal.ensures c.if-is_refusal.true (request_of c.args.request)
+pub returns-in_err-check : goal.returns-in_err-check
+returns-in_err-check c =
+    rw (passed_on c.from_residual.result c.from_residual.ensures.1 (λ f same. same))
+    (edit_refused c.args.pool.now c.check.ensures c.in_err-check.was (request_of c.args.request))
 
 pub edit-requires : goal.edit-requires
-edit-requires c = held (goal.at.edit-requires c).Else-is_refusal
+edit-requires c = held (goal.at.edit-requires c).In_ok-check
 
 pub returns : goal.returns
 returns c =
-    edit_served (held (goal.at.returns c).Else-is_refusal).1 (request_of c.args.request) (c.edit.ensures (held (goal.at.returns c).Else-is_refusal).0 (held (goal.at.returns c).Else-is_refusal).1)
+    let pool = held (goal.at.returns c).In_ok-check in
+    edit_served pool.1 (request_of c.args.request) (c.edit.ensures pool.0 pool.1)

@@ -6,19 +6,18 @@ use Rattle.node.proofs.new.Goals as goal
 
 pub update-requires : goal.update-requires
 update-requires c =
-    let start = c in
-    let a = start.args in (
-      entry a.k a.start a.end a.value,
+    let a = c.args in
+    let r = a.range in (
+      entry a.k r.start r.end a.value,
       leaf,
       leaf,
-      rw c.set_words.ensures (hung-entry a.start a.end a.value start.requires),
+      rw c.set_words.ensures (hung-entry r.start r.end a.value c.requires),
     )
 
 pub returns : goal.returns
 returns c =
-    let d = c in
-    let start = d in
-    let a = start.args in
-    let hung = hung-entry a.start a.end a.value start.requires in
-    made a.start a.end a.value start.requires
-    (rw d.set_words.ensures at (c.update.ensures (entry a.k a.start a.end a.value) leaf leaf (rw d.set_words.ensures hung)))
+    let a = c.args in
+    let r = a.range in
+    let hung = hung-entry r.start r.end a.value c.requires in
+    made r.start r.end a.value c.requires
+    (rw c.set_words.ensures at (c.update.ensures (entry a.k r.start r.end a.value) leaf leaf (rw c.set_words.ensures hung)))

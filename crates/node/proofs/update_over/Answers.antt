@@ -3,29 +3,20 @@ use Rattle.node.proofs.Halves.{apart-high, shape_over}
 use Rattle.node.proofs.Updated.{fit, updated}
 use Rattle.node.proofs.update_over.Goals as goal
 
-pub update_max-max-requires : goal.update_max-max-requires
-update_max-max-requires c = let f = fit c.requires.2.3 in (f.at, f.left_in, f.right_in)
-
 pub update_shape-shape-requires : goal.update_shape-shape-requires
 update_shape-shape-requires c =
     let p = c.requires in
     let f = fit p.2.3 in
     rw (apart-high p.0 f.left_low, apart-high p.1 f.right_low) f.few
 
-pub pack-requires : goal.pack-requires
-pack-requires c =
-    let f = fit c.requires.2.3 in
-    (f.left_small, f.right_small)
-
 pub returns : goal.returns
 returns c e a b h =
-    let d = c in
-    let p = d.requires in
+    let p = c.requires in
     let f = fit h in
     rw c.set_words.ensures
     (updated h
     (record {
-      max_is = d.update_max-max.ensures;
+      max_is = c.update_max-max.ensures;
       links_is = c.pack.ensures;
-      shape_is = shape_over _ _ p.0 p.1 f.left_low f.right_low d.update_shape-shape.ensures;
+      shape_is = shape_over _ _ p.0 p.1 f.left_low f.right_low c.update_shape-shape.ensures;
     }))

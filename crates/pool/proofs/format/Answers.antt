@@ -18,10 +18,6 @@ slice_bounds-link_slots-count c =
     let words = c.args.words.now in
     omega (arith, roomy (length words) c.requires, length-set words 3 0)
 
-pub shape_of-words : goal.shape_of-words
-shape_of-words c =
-    omega (arith, length-set c.args.words.now 3 0)
-
 pub returns : goal.returns
 returns c =
     let linked = c.link_slots in

@@ -1,10 +1,7 @@
 -- `link_slots` frees each slot from the last to the first. The loop's invariant: the slots after `s` are chained, and
--- `next` is the first of them. The measure is `s`. Assumes nothing.
+-- `next` is the first of them. Assumes nothing.
 use Rattle.pool.proofs.Chains.{Linked}
 use Rattle.pool.proofs.link_slots.Given as goal
 
 abbrev pub invariant-loop-s : goal.invariant-loop-s
 invariant-loop-s l = Linked l.initial.slots l.slots l.next l.s
-
-abbrev pub decreases-loop-s : goal.decreases-loop-s
-decreases-loop-s l = l.s

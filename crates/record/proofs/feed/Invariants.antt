@@ -7,12 +7,12 @@ use Rattle.rules.specs.Pool.{Pool, Holds}
 use Rattle.record.proofs.Feeding.{Goes}
 use Rattle.record.proofs.feed.Given as goal
 
-abbrev pub invariant-loop-at : goal.invariant-loop-at
-invariant-loop-at l =
+abbrev pub invariant-loop-rest : goal.invariant-loop-rest
+invariant-loop-rest l =
     (length l.words ≡ length l.initial.words)
-    × (l.at ≤ length l.bytes)
-    × (l.records ≤ l.at)
-    × ((p : Pool) → Holds l.initial.words p → Goes l.initial.words l.words l.bytes l.at l.records p)
+    × (length l.rest ≤ length l.bytes)
+    × (l.records ≤ length l.bytes - length l.rest)
+    × ((p : Pool) → Holds l.initial.words p → Goes l.initial.words l.words l.bytes l.rest (length l.bytes - length l.rest) l.records p)
 
-abbrev pub decreases-loop-at : goal.decreases-loop-at
-decreases-loop-at l = length l.bytes - l.at
+abbrev pub decreases-loop-rest : goal.decreases-loop-rest
+decreases-loop-rest l = length l.rest

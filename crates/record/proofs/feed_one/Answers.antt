@@ -1,54 +1,21 @@
 -- `feed_one` is one turn of the rules' feed. Assumes nothing.
-use Prim.Native.Nat.{◌+◌, ◌≤◌}
-use mathlib.Core.Option.{some}
-use mathlib.Core.Path.{◌≡◌, refl, sym, ◌∙◌}
-use lib.ListN.{length, get_or}
-use Rattle.rules.specs.Request.{serve}
+use mathlib.Core.Path.{◌≡◌}
 use Rattle.rules.specs.Record.{whole, feed_kinds, reads}
 use Rattle.request.specs.Requests.{request_of}
-use Rattle.reading.specs.Reading.{feed_row, fixed_length}
-use Rattle.reading.proofs.Found.{cut_in_feed, enough_in_feed, whole_in_feed, unknown_in_feed}
-use Rattle.record.proofs.Turns.{ends_unknown, ends_cut_short}
+use Rattle.request.proofs.Refused.{passed_on}
 use Rattle.record.proofs.Feeding.{turned_on, turned_off}
 use Rattle.record.proofs.feed_one.Goals as goal
-use Rattle.record.proofs.feed_one.Goals.{In-Length, After-means}
+use Rattle.record.proofs.feed_one.Goals.{In_ok-record}
 
--- the length that the kind fixes, where it is known
-fixed : (d : In-Length) → some d.in-Length.n ≡ fixed_length (feed_row (get_or d.args.bytes.now 0 0))
-fixed d = rw d.in-Length.is at d.body_length_in_feed.ensures
+-- what was read
+read : (d : In_ok-record) → reads feed_kinds d.args.bytes.now ≡ whole (request_of d.in_ok-record.record.request) d.in_ok-record.record.taken
+read d = let is = rw d.in_ok-record.was at d.read_in_feed.ensures in cc
 
--- what is read where the body is long enough
-whole_read : (m : After-means) → 1 ≤ length m.args.bytes.now
-    → reads feed_kinds m.args.bytes.now ≡ whole (request_of m.means.result) (m.in-Length.n + 1)
-whole_read m there =
-    whole_in_feed m.args.bytes.now m.in-Length.n there (rw m.in-Length.is at m.body_length_in_feed.ensures) (request_of m.means.result)
-    m.if-body-n.false m.means.ensures
+pub returns-in_err-edit : goal.returns-in_err-edit
+returns-in_err-edit c p h there =
+    rw (passed_on c.from_residual-in_err-edit.result c.from_residual-in_err-edit.ensures.1 (λ f same. same))
+    (turned_off c.args.bytes.now _ h there (read (goal.at.returns-in_err-edit c).In_ok-record) _ (rw c.in_err-edit.was at c.edit.ensures p h))
 
-pub returns-then-body-n : goal.returns-then-body-n
-returns-then-body-n c p h there =
-    let fed = c.args.bytes.now in (
-      refl,
-      rw c.number_of-then-body-n.ensures
-          (ends_cut_short (serve _) fed p there
-          (cut_in_feed fed c.in-Length.n there (fixed (goal.at.returns-then-body-n c).In-Length) c.if-body-n.true)),
-    )
-
-pub means-requires : goal.means-requires
-means-requires c =
-    enough_in_feed c.args.bytes.now c.in-Length.n c.requires.2 (fixed (goal.at.means-requires c).In-Length) c.if-body-n.false
-
-pub returns-in-Unknown : goal.returns-in-Unknown
-returns-in-Unknown c p h there =
-    let fed = c.args.bytes.now in
-    let none_there = rw c.in-Unknown.is at c.body_length_in_feed.ensures in
-    (refl, rw c.number_of.ensures (ends_unknown (serve _) fed p there (unknown_in_feed fed there none_there)))
-
-pub returns-then-is_refusal : goal.returns-then-is_refusal
-returns-then-is_refusal c p h there =
-    turned_off c.args.bytes.now (request_of c.means.result) h there
-    (whole_read (goal.at.returns-then-is_refusal c).After-means there) (c.edit-number.ensures p h) (sym c.is_refusal.ensures ∙ c.if-is_refusal.true)
-
-pub returns-else-is_refusal : goal.returns-else-is_refusal
-returns-else-is_refusal c p h there =
-    turned_on c.args.bytes.now (request_of c.means.result) h there
-    (whole_read (goal.at.returns-else-is_refusal c).After-means there) (c.edit-number.ensures p h) (sym c.is_refusal.ensures ∙ c.if-is_refusal.false)
+pub returns : goal.returns
+returns c p h there =
+    turned_on c.args.bytes.now _ h there (read (goal.at.returns c).In_ok-record) _ (rw c.in_ok-edit.was at c.edit.ensures p h)

@@ -1,40 +1,47 @@
--- `query` counts all hits and writes their rows. The loop's invariant: what is counted and written are the first hits, and
--- the others are those of the pending trees. The measure is the number of entries pending. Assumes nothing.
-use mathlib.Core.Path.{refl, ◌∙◌}
+-- `query` counts all hits and writes their rows. Assumes nothing.
+use Prim.Native.Nat.{◌≤◌}
+use mathlib.Core.Path.{refl, ◌∙◌, ap}
 use native.Mathlib.Omega.{arith}
-use lib.ListN.{replicate}
-use Rattle.rules.specs.Limits.{most_pending}
-use Rattle.rows.proofs.Listing.{walk_start, walk_few, walk_over, walk_hit, walk_less, walk_on}
+use Rattle.rules.specs.Limits.{most_slots}
+use Rattle.rows.proofs.Lines.{hit-within, counted}
+use Rattle.rows.proofs.Listing.{walk_start, walk_few, walk_on, walk_end}
 use Rattle.rows.proofs.query.Goals as goal
+use Rattle.rows.proofs.query.Goals.{In-Some}
 
-pub leave-pending-requires : goal.leave-pending-requires
-leave-pending-requires c = omega arith
+pub loop-k-init : goal.loop-k-init
+loop-k-init g c =
+    rw c.into_iter-k-iterator.ensures.into_iter_gives (refl, refl, λ t h. walk_start _ h (c.start-place.ensures _ t h))
 
-pub loop-pending-init : goal.loop-pending-init
-loop-pending-init c = (refl, λ t h. rw (c.leave-pending.ensures.0, c.leave-pending.ensures.1) (walk_start _ (replicate most_pending 0) h refl))
-
-pub next-after-requires : goal.next-after-requires
-next-after-requires c =
+-- no more are counted than there can be
+few : (g : _) (c : In-Some g) → c.loop-k.count ≤ most_slots
+few g c =
     let pre = c.requires in
-    let w = c.loop-pending.invariant.1 pre.0 pre.1 in
-    (w.on, w.stands)
+    walk_few (c.loop-k.invariant.2 pre.0 pre.1) {k = c.args.root} (rw c.loop-k.invariant.0 pre.1)
 
-pub count_hit-count-requires : goal.count_hit-count-requires
-count_hit-count-requires c =
+pub write_row-requires : goal.write_row-requires
+write_row-requires g c =
     let pre = c.requires in
-    let w = c.loop-pending.invariant.1 pre.0 pre.1 in
-    (walk_hit w c.next-after.ensures, walk_few w pre.1)
+    let w = c.loop-k.invariant.2 pre.0 pre.1 in
+    let left = c.in-Some.ensures.steps.3 w.on w.stands in
+    (rw c.loop-k.invariant.0 at (hit-within left.hits), few g (goal.at.write_row-requires g c).In-Some)
 
-pub loop-pending-smaller : goal.loop-pending-smaller
-loop-pending-smaller c =
-    let pre = c.requires in
-    walk_less (c.loop-pending.invariant.1 pre.0 pre.1) c.next-after.ensures c.loop-pending-test.true
+pub overflow_add-count : goal.overflow_add-count
+overflow_add-count g c = let most = few g (goal.at.overflow_add-count g c).In-Some in record { fits = omega arith }
 
-pub loop-pending-preserved : goal.loop-pending-preserved
-loop-pending-preserved c = (
-  c.count_hit-count.auto.rows ∙ c.loop-pending.invariant.0,
-  λ t h. walk_on (c.loop-pending.invariant.1 t h) c.next-after.ensures c.count_hit-count.ensures,
-)
+pub loop-k-preserved : goal.loop-k-preserved
+loop-k-preserved g c =
+    let on = c.loop-k.invariant in
+    let steps = c.in-Some.ensures.steps in (
+      ap (λ s. s.now) steps.0 ∙ on.0,
+      steps.1 ∙ on.1,
+      λ t h.
+          let w = on.2 t h in
+          let left = steps.3 w.on w.stands in
+          rw (steps.0, steps.1) (walk_on w left (counted _ _ left.hits (rw on.0 c.write_row.ensures))),
+    )
 
 pub returns : goal.returns
-returns c t h = walk_over (c.loop-pending.invariant.1 t h) (omega arith)
+returns g c t h =
+    let on = c.loop-k.invariant in
+    let w = on.2 t h in
+    rw on.1 at (walk_end w (c.in-None.ensures.steps.3 w.on w.stands))

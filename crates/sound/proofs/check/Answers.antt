@@ -11,16 +11,16 @@ returns-then-not-is_right_length c =
 pub is_sound-requires : goal.is_sound-requires
 is_sound-requires c = sym c.is_right_length.ensures ∙ c.if-not-is_right_length.false
 
-pub returns-then-is_sound : goal.returns-then-is_sound
-returns-then-is_sound c =
-    passed_number c.args.words.now
-    (sym c.is_right_length.ensures ∙ c.if-not-is_right_length.false)
-    c.is_sound.ensures
-    c.if-is_sound.true
-
-pub returns-else-is_sound : goal.returns-else-is_sound
-returns-else-is_sound c =
+pub returns-then-not-is_sound : goal.returns-then-not-is_sound
+returns-then-not-is_sound c =
     failed_number c.args.words.now
     (sym c.is_right_length.ensures ∙ c.if-not-is_right_length.false)
     c.is_sound.ensures
-    c.if-is_sound.false
+    c.if-not-is_sound.true
+
+pub returns : goal.returns
+returns c =
+    passed_number c.args.words.now
+    (sym c.is_right_length.ensures ∙ c.if-not-is_right_length.false)
+    c.is_sound.ensures
+    c.if-not-is_sound.false

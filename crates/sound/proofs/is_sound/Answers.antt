@@ -5,7 +5,7 @@ use native.Mathlib.Omega.{arith}
 use lib.ListN.{length}
 use Rattle.rules.specs.Limits.{most_slots}
 use Rattle.sound.proofs.Marks.{blank, blank-flags}
-use Rattle.sound.proofs.Whole.{header-lent, lent_room, refused_header, root_ready, live_few}
+use Rattle.sound.proofs.Whole.{header-lent, refused_header, root_ready, live_few}
 use Rattle.sound.proofs.Whole.{refused_tree, decided}
 use Rattle.sound.proofs.is_sound.Goals as goal
 
@@ -51,13 +51,6 @@ overflow_sub-slots c =
     let ws = c.args.words.now in
     live_few ws _ c.requires c.slots-slots.ensures
     (sym c.header.ensures ∙ c.if-not-header.false)
-
-pub chain-requires : goal.chain-requires
-chain-requires c =
-    let ws = c.args.words.now in (
-      lent_room ws _ c.requires c.slots-slots.ensures,
-      (c.tree.ensures.accepted c.if-not-tree.false).2.flags,
-    )
 
 pub returns : goal.returns
 returns c =

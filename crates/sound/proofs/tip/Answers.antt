@@ -9,15 +9,8 @@ use Rattle.sound.proofs.Verdict.{Passed, passes, judged_none, judged_here, judge
 use Rattle.sound.proofs.tip.Goals as goal
 use Rattle.sound.proofs.tip.Goals.{Else-k-eq0, Else-not-claim-fits_alone}
 
-pub in_order-requires : goal.in_order-requires
-in_order-requires c = let ready = c.requires.0 in (ready.before_at, ready.after_at)
-
 pub returns-then-k-eq0 : goal.returns-then-k-eq0
 returns-then-k-eq0 c = judged_none c.requires.0 c.if-k-eq0.true c.in_order.ensures
-
-pub claim-requires : goal.claim-requires
-claim-requires c =
-    let ready = c.requires.0 in omega (arith, ready.at, ready.room.room, ready.flags.long)
 
 -- past the first test k is a slot, and it has no children
 alone : (c : Else-k-eq0)
@@ -26,14 +19,6 @@ alone : (c : Else-k-eq0)
 alone c =
     let low : 1 ≤ c.args.k = omega (arith, c.if-k-eq0.false) in
     (low, childless low c.requires.1)
-
-pub fits_alone-requires : goal.fits_alone-requires
-fits_alone-requires c =
-    let here = alone (goal.at.fits_alone-requires c).Else-k-eq0 in
-    (record { from_one = here.0; inside = c.requires.0.at }, here.1)
-
-pub shape_of-marks-then-not-claim-fits_alone : goal.shape_of-marks-then-not-claim-fits_alone
-shape_of-marks-then-not-claim-fits_alone c = c.claim.auto.marks
 
 pub returns-then-not-claim-fits_alone : goal.returns-then-not-claim-fits_alone
 returns-then-not-claim-fits_alone c =
@@ -48,27 +33,11 @@ alone-passed c =
     passes c.claim.ensures.was c.fits_alone.ensures
     c.if-not-claim-fits_alone.false
 
-pub in_order-requires-2 : goal.in_order-requires-2
-in_order-requires-2 c =
-    let ready = c.requires.0 in
-    (ready.before_at, ready.at)
-
-pub shape_of-marks-then-not-in_order : goal.shape_of-marks-then-not-in_order
-shape_of-marks-then-not-in_order c = c.claim.auto.marks
-
 pub returns-then-not-in_order : goal.returns-then-not-in_order
 returns-then-not-in_order c =
     let here = alone (goal.at.returns-then-not-in_order c).Else-k-eq0 in
     judged_first here.0 c.requires.0 (alone-passed (goal.at.returns-then-not-in_order c).Else-not-claim-fits_alone) here.1
     c.claim.ensures.left (sym c.if-not-in_order.true ∙ c.in_order-2.ensures)
-
-pub in_order-requires-3 : goal.in_order-requires-3
-in_order-requires-3 c =
-    let ready = c.requires.0 in
-    (ready.at, ready.after_at)
-
-pub shape_of-marks : goal.shape_of-marks
-shape_of-marks c = c.claim.auto.marks
 
 pub returns : goal.returns
 returns c =

@@ -1,5 +1,4 @@
--- `survey` is safe and ends: the words hold a pool before each turn. The measure is the number of turns that are left.
--- Assumes nothing.
+-- `survey` is safe: the words hold a pool before each turn. Assumes nothing.
 use mathlib.Core.Path.{refl}
 use Rattle.rules.specs.Pool.{capacity, right_length}
 use Rattle.survey.proofs.Holding.{formatted}
@@ -9,5 +8,5 @@ pub format-requires : goal.format-requires
 unfolding right_length capacity
 format-requires g c = rw c.requires refl
 
-pub loop-turns-init : goal.loop-turns-init
-loop-turns-init g c = formatted c.args.words.now c.requires c.format.ensures
+pub loop-init : goal.loop-init
+loop-init g c = formatted c.args.words.now c.requires c.format.ensures

@@ -1,32 +1,42 @@
--- `toward` answers the side to which the order sends a search. Assumes nothing.
+-- `toward` answers the way on which the order sends a search. Assumes nothing.
 use mathlib.Core.Bool.{true, false}
-use mathlib.Core.Path.{◌≡◌, refl, sym, ◌∙◌}
-use Rattle.rules.specs.Range.{Order, less, same, more, range, order, is_less}
-use Rattle.rules.specs.Balance.{left, right}
-use Rattle.tree.specs.Edits.{side_to}
+use mathlib.Core.Path.{◌≡◌, refl, ◌∙◌}
+use Rattle.rules.specs.Range.{Order, less, same, more, order, is_less, is_same}
+use Rattle.interval.specs.Interval.{range_of}
+use Rattle.interval.proofs.Derived as derived
 use Rattle.tree.proofs.toward.Goals as goal
 
--- what the test tells of the side
-told-left : (o : Order) → is_less o ≡ true → left ≡ side_to o
-told-left less h = refl
-told-left same h = cc
-told-left more h = cc
+-- what the two tests tell of the order
+told-same : (o : Order) → true ≡ is_same o → same ≡ o
+told-same less h = cc
+told-same same h = refl
+told-same more h = cc
 
-told-right : (o : Order) → is_less o ≡ false → right ≡ side_to o
-told-right less h = cc
-told-right same h = refl
-told-right more h = refl
+told-less : (o : Order) → true ≡ is_less o → less ≡ o
+told-less less h = refl
+told-less same h = cc
+told-less more h = cc
 
-pub returns-then-before : goal.returns-then-before
-returns-then-before c =
-    let a = c.args in
-    let at = range c.word-here.result c.word-last.result in
-    rw (← c.word-here.ensures, ← c.word-last.ensures)
-    (told-left (order (range a.start a.end) at) (sym c.before-2.ensures ∙ c.if-before.true))
+told-more : (o : Order) → false ≡ is_same o → false ≡ is_less o → more ≡ o
+told-more less h i = cc
+told-more same h i = cc
+told-more more h i = refl
 
-pub returns-else-before : goal.returns-else-before
-returns-else-before c =
-    let a = c.args in
-    let at = range c.word-here.result c.word-last.result in
-    rw (← c.word-here.ensures, ← c.word-last.ensures)
-    (told-right (order (range a.start a.end) at) (sym c.before-2.ensures ∙ c.if-before.false))
+pub returns-then-eq : goal.returns-then-eq
+returns-then-eq c =
+    let i = c.args.range in
+    let j = c.interval_at-here.result in
+    rw (← c.interval_at-here.ensures) (told-same (order (range_of i) (range_of j)) (c.if-eq.ensures ∙ derived.same i j))
+
+pub returns-then-lt : goal.returns-then-lt
+returns-then-lt c =
+    let i = c.args.range in
+    let j = c.interval_at-here.result in
+    rw (← c.interval_at-here.ensures) (told-less (order (range_of i) (range_of j)) (c.if-lt.ensures ∙ derived.before i j))
+
+pub returns-else-lt : goal.returns-else-lt
+returns-else-lt c =
+    let i = c.args.range in
+    let j = c.interval_at-here.result in
+    rw (← c.interval_at-here.ensures)
+    (told-more (order (range_of i) (range_of j)) (c.if-eq.ensures ∙ derived.same i j) (c.if-lt.ensures ∙ derived.before i j))

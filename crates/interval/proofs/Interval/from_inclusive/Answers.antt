@@ -1,15 +1,19 @@
 -- `Interval::from_inclusive` answers the range one longer, and none for the largest number. Assumes nothing.
-use borrow.Author.Tests.{lt-ltb}
+use borrow.Author.Tests.{lt-ltb, le-ltb}
 use native.Mathlib.Omega.{arith}
 use Prim.Native.Nat.{◌+◌}
 use Rattle.rules.specs.Limits.{beyond}
 use Rattle.rules.specs.Range.{range_to}
 use Rattle.interval.proofs.Interval.from_inclusive.Goals as goal
 
-pub returns-then-last-eq18446744073709551615 : goal.returns-then-last-eq18446744073709551615
+pub returns-in_err-end : goal.returns-in_err-end
 unfolding range_to
-returns-then-last-eq18446744073709551615 c = rw c.if-last-eq18446744073709551615.true
+returns-in_err-end c =
+    let past = c.in_err-end.ensures in
+    rw (c.from_residual.ensures, le-ltb (c.args.last + 1) beyond (omega (arith, past)))
 
-pub returns-else-last-eq18446744073709551615 : goal.returns-else-last-eq18446744073709551615
+pub returns : goal.returns
 unfolding range_to
-returns-else-last-eq18446744073709551615 c = rw (lt-ltb (c.args.last + 1) beyond (omega arith))
+returns c =
+    let within = c.in_ok-end.ensures in
+    rw (within.1, lt-ltb (c.args.last + 1) beyond within.0)

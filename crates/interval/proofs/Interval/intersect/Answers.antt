@@ -1,11 +1,19 @@
 -- `Interval::intersect` answers the shared range of document 01, where there is one. Assumes nothing.
+use mathlib.Core.Bool.{Bool, true, false, cond}
+use mathlib.Core.Path.{◌≡◌, refl}
+use Rattle.std.specs.Bool.{then_some}
+use Rattle.std.proofs.Math.Option.{some, none}
 use Rattle.rules.specs.Range.{overlaps, intersect}
+use Rattle.interval.specs.Interval.{range_of, found_of}
+use Rattle.interval.specs.declared.Interval.{Interval}
 use Rattle.interval.proofs.Interval.intersect.Goals as goal
 
-pub returns-then-is_valid : goal.returns-then-is_valid
-unfolding intersect overlaps
-returns-then-is_valid c = rw (← c.larger-start.ensures, ← c.smaller-end.ensures, ← c.is_valid.ensures, c.if-is_valid.true)
+-- the range where the test says so
+found : (t : Bool) (i : Interval) → found_of (then_some t i) ≡ cond t (some (range_of i)) none
+found true i = refl
+found false i = refl
 
-pub returns-else-is_valid : goal.returns-else-is_valid
+pub returns : goal.returns
 unfolding intersect overlaps
-returns-else-is_valid c = rw (← c.larger-start.ensures, ← c.smaller-end.ensures, ← c.is_valid.ensures, c.if-is_valid.false)
+returns c =
+    rw (c.then_some.ensures, found c.is_valid.result _, c.is_valid.ensures, c.max-start.ensures, c.min-end.ensures)

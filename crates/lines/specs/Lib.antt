@@ -1,0 +1,5 @@
+pub mod Counting
+pub mod Format
+pub mod Lines
+pub mod Noted
+pub mod Nodes

@@ -1,9 +1,0 @@
--- `max_end` answers the max, and 0 for none. Assumes nothing.
-use borrow.Author.Tests.{eq-eqb, ne_eqb}
-use Rattle.node.proofs.max_end.Goals as goal
-
-pub returns-then-s-eq0 : goal.returns-then-s-eq0
-returns-then-s-eq0 c = rw (eq-eqb c.args.s 0 c.if-s-eq0.true)
-
-pub returns-else-s-eq0 : goal.returns-else-s-eq0
-returns-else-s-eq0 c = rw (ne_eqb c.args.s 0 c.if-s-eq0.false) c.word.ensures

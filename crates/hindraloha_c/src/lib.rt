@@ -1,5 +1,5 @@
 // The entries as C calls them: each only calls the entry of the same name in the crate `hindraloha`, and has its clauses
-// word for word. include/hindraloha.h declares them.
+// word for word. They stand apart from the entries, which other crates call. include/hindraloha.h declares them.
 #![tactic(auto)]
 
 ghost use Rattle.std.specs.Prelude.{◌≡◌};

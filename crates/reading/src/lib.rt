@@ -36,7 +36,8 @@ pub struct Record {
     pub taken: usize,
 }
 
-// The number in the four bytes from `at` on, the first the lowest.
+// The number in the four bytes from `at` on, the first the lowest. Here as below each function says how many bytes it reads,
+// since that is another number in each.
 fn u32_at(body: &[u8], at: usize) -> u64
     requires { at + 4 ≤ length body.now }
     ensures { (result ≡ u32_at at body.now) × (result < 4294967296) }

@@ -30,7 +30,7 @@ pub struct Records {
     pub taken: usize,
 }
 
-// What a record came to that was applied: the outcome, the bytes taken, and the hits.
+// What a record came to that was applied: the outcome, the bytes taken, and the hits, which are 0 but for a query.
 #[derive(Clone, Copy)]
 pub struct Applied {
     pub outcome: Outcome,

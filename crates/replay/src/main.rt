@@ -24,7 +24,7 @@ fn turn(input: &mut impl Read, listing: &mut Listing) -> io::Result<bool> {
 }
 
 // Takes in the whole list. No run uses up the turns, which are counted so that the loop ends. (The program `survey` has such a
-// loop too, and no crate in common with this one.)
+// loop too, and no crate with code in common with this one.)
 fn replay(input: &mut impl Read, listing: &mut Listing) -> io::Result<()> {
     for _ in 0..u64::MAX {
         if !turn(input, listing)? {

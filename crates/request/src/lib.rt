@@ -84,7 +84,7 @@ impl From<Refusal> for u64 {
     }
 }
 
-// Document 01's number of an answer.
+// Document 01's number of an answer. (It is no `From`, since neither type is of this crate.)
 pub fn number_of(answer: Result<Outcome, Refusal>) -> u64
     ensures { result ≡ number_of answer }
 {

@@ -53,7 +53,7 @@ fn write_row<R: Row>(slots: &[u64], k: u64, rows: &mut [R], n: usize)
 }
 
 // Counts all hits in the tree from slot `root` on, 0 for none, and writes start, end and value of as many as the rows
-// have room for.
+// have room for. That the tree can be walked is a clause, since slots and root are lent by themselves, as a pool's words are.
 pub fn query<R: Row>(slots: &[u64], root: u64, query: Interval, rows: &mut [R]) -> usize
     requires { (t : Tree) × Walkable slots.now root t }
     ensures { (t : Tree) → Walkable slots.now root t → (result ≡ length (hits (range_of query) t)) × (R.words rows.new ≡ rows_into (hits (range_of query) t) (R.words rows.old)) }

@@ -1,5 +1,6 @@
 // The soundness check of document 01: whether lent words hold a pool, and so whether an entry may go to work on them. The
-// slots and the marks are lent apart: in one struct each step would have to promise that the slots stay.
+// slots and the marks are lent apart: in one struct each step would have to promise that the slots stay. A mark is a
+// number, 0 or 1, since a slot's mark and how often it stands in a tree are added up.
 #![tactic(auto)]
 
 ghost use Rattle.std.specs.Prelude.{◌≡◌, true, ◌*◌, ◌≤◌, ◌<◌, eqb, length, get_or, set};

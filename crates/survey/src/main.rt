@@ -47,10 +47,8 @@ fn read_full(input: &mut impl Read, bytes: &mut [u8]) -> io::Result<usize>
 
 // Reads the next record to the front of `bytes`, and answers how many there are: none at the end of the input, and
 // fewer than the kind asks where the input ends inside the record.
-fn read_record(input: &mut impl Read, bytes: &mut [u8]) -> io::Result<usize>
-    requires { length bytes.old ≡ 25 }
-    ensures within { IfOk result (λ n. n ≤ 25) }
-    ensures as_long { length bytes.new ≡ 25 }
+fn read_record(input: &mut impl Read, bytes: &mut [u8; RECORD_BYTES]) -> io::Result<usize>
+    ensures { IfOk result (λ n. n ≤ 25) }
 {
     if read_full(input, &mut bytes[..1])? == 0 {
         return Ok(0);
@@ -105,9 +103,9 @@ fn serve_record(
     rt: &impl Print,
     words: &mut [u64],
     bytes: &[u8],
-    rows: &mut [u64],
+    rows: &mut [u64; ROW_WORDS],
 ) -> io::Result<bool>
-    requires { Ready words.old × (length rows.old ≡ 2400) }
+    requires { Ready words.old }
     ensures { Ready words.new }
 {
     match record::apply(words, bytes, rows) {
@@ -142,10 +140,8 @@ fn turn(rt: &impl Print, input: &mut impl Read, words: &mut [u64]) -> io::Result
 }
 
 // Formats the pool, then takes records while there are any. A proved loop has to end, and nothing says that the input
-// does: so the turns are counted, up to a number that no run reaches.
-fn survey(rt: &impl Print, input: &mut impl Read, words: &mut [u64]) -> io::Result<()>
-    requires { length words.old ≡ 4804 }
-{
+// does: so the turns are counted, up to a number that no run reaches. (`replay` has such a loop too.)
+fn survey(rt: &impl Print, input: &mut impl Read, words: &mut [u64; POOL_WORDS]) -> io::Result<()> {
     pool::format(words);
     for _ in 0..u64::MAX {
         if !turn(rt, input, words)? {

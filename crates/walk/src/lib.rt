@@ -1,6 +1,7 @@
 // iterators.rs of the crate: the query walk, over slot numbers. The slots are lent as the words after the header, the
 // pending nodes as a stack of their slots. The stack is lent beside where the walk stands, and not held in one struct with
-// it: what is beside it in memory is read and written there at each step, a fifth of a query's instructions.
+// it: what is beside it in memory is read and written there at each step, a fifth of a query's instructions, and the walk
+// would be slower than it was.
 #![tactic(auto)]
 
 ghost use Rattle.std.specs.Prelude.{◌≡◌, cond, List, ℕ, suc, ◌<◌, ◌≤◌, eqb, set, take, Some, None};

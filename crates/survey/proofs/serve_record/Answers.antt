@@ -10,16 +10,16 @@ use Rattle.survey.proofs.serve_record.Goals.{After-apply}
 
 pub write_hits-requires : goal.write_hits-requires
 write_hits-requires g c =
-    let is = rw c.in-Ok.is at (c.apply.ensures c.requires.0.held c.requires.0.holds) in
-    let fit = rows_fit (reads kinds c.args.bytes.now) c.args.rows.now c.requires.0 in
+    let is = rw c.in-Ok.is at (c.apply.ensures c.requires.held c.requires.holds) in
+    let fit = rows_fit (reads kinds c.args.bytes.now) c.args.rows.now c.requires in
     omega (arith, ap (λ a. a.count) is, c.apply.auto.rows)
 
 -- the record was applied, so that the words hold a pool again, whatever becomes of its lines
 left : (g : Over) (c : After-apply g) → Ready c.apply.new.words
 left g c =
-    let is = c.apply.ensures c.requires.0.held c.requires.0.holds in
+    let is = c.apply.ensures c.requires.held c.requires.holds in
     let r = reads kinds c.args.bytes.now in
-    applied-ready r c.args.rows.now c.apply.auto.words c.requires.0 (ap (λ a. a.words) is)
+    applied-ready r c.args.rows.now c.apply.auto.words c.requires (ap (λ a. a.words) is)
 
 pub returns-in_err-write_hits-in-Ok : goal.returns-in_err-write_hits-in-Ok
 returns-in_err-write_hits-in-Ok g c = left g (goal.at.returns-in_err-write_hits-in-Ok g c).After-apply

@@ -6,7 +6,7 @@ use Rattle.survey.proofs.survey.Goals as goal
 
 pub format-requires : goal.format-requires
 unfolding right_length capacity
-format-requires g c = rw c.requires refl
+format-requires g c = rw c.told-words refl
 
 pub loop-init : goal.loop-init
-loop-init g c = formatted c.args.words.now c.requires c.format.ensures
+loop-init g c = formatted c.args.words.now c.told-words c.format.ensures

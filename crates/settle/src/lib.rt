@@ -17,7 +17,7 @@ use node::{LINKS, MAX, SHAPE};
 
 // What an edit left in the place of a tree: the slot of its root, and whether its height is another one than before, as the
 // halves of one word. As two fields, an Option of it would pass through memory from level to level, which takes 13 % more
-// instructions of an insert and misses the feed's bar.
+// instructions of an insert and makes a feed slower than it was.
 #[derive(Clone, Copy)]
 pub struct Settled {
     word: u64,

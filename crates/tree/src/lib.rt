@@ -21,7 +21,7 @@ use settle::{Gain, Loss, Settled};
 
 // What a removal did: what it left of the tree, and the slot of the entry that went. Where nothing went, the slot is 0: an
 // Option of the two would pass through memory from level to level, which takes 6 % more instructions of a feed and
-// misses its bar, 0.80 of the crate.
+// makes it slower than it was.
 #[derive(Clone, Copy)]
 pub struct Removed {
     pub top: Settled,

@@ -1,15 +1,15 @@
 -- The records: their words are the rows of the words form, and tell the records. Assumes nothing.
 use Prim.Native.Nat.{ℕ, zero, suc, ◌*◌, ◌≤◌, ◌<◌}
-use mathlib.Core.List.{List, [], ◌∷◌}
+use mathlib.Core.List.{List, [], ◌∷◌, ◌++◌}
 use mathlib.Core.Path.{◌≡◌, refl, sym, ap, ◌∙◌}
 use native.Mathlib.Omega.{arith}
-use lib.ListN.{length, set}
+use lib.ListN.{length, set, take}
 use Rattle.rules.specs.Tree.{Entry}
 use Rattle.rules.specs.Entries.{rows_into}
 use Rattle.rows.specs.Rows.{with_row}
 use Rattle.rows.proofs.Lines.{no_room, some_room, later-row}
 use Rattle.held.specs.declared.Hit.{Hit}
-use Rattle.held.specs.Records.{records_into, words_of}
+use Rattle.held.specs.Records.{hit_of, records_into, words_of}
 
 -- rows as words are the records taken apart
 pub rows_are_records : (es : List Entry) (rows : List Hit) → words_of (records_into es rows) ≡ rows_into es (words_of rows)
@@ -17,6 +17,25 @@ rows_are_records [] rows = refl
 rows_are_records (e ∷ es) [] = refl
 rows_are_records (e ∷ es) (r ∷ rows) =
     ap (λ rest. e.range.start ∷ e.range.end ∷ e.value ∷ rest) (rows_are_records es rows)
+
+-- one record after others
+next_record :
+    (done : List Entry) (e : Entry) (more : List Entry) (rows : List Hit) → length done < length rows
+    → set (records_into (take (length done) (done ++ e ∷ more)) rows) (length done) (hit_of e)
+    ≡ records_into (take (suc (length done)) (done ++ e ∷ more)) rows
+next_record [] e more [] h = absurd (omega arith)
+next_record [] e more (r ∷ rows) h = refl
+next_record (d ∷ done) e more [] h = absurd (omega arith)
+next_record (d ∷ done) e more (r ∷ rows) h = ap (λ rest. hit_of d ∷ rest) (next_record done e more rows (omega arith))
+
+-- without room no more are written
+no_more-room : (n : ℕ) (es : List Entry) (rows : List Hit) → length rows ≤ n → records_into (take n es) rows ≡ records_into es rows
+no_more-room zero [] rows h = refl
+no_more-room zero (e ∷ es) [] h = refl
+no_more-room zero (e ∷ es) (r ∷ rows) h = absurd (omega arith)
+no_more-room (suc n) [] rows h = refl
+no_more-room (suc n) (e ∷ es) [] h = refl
+no_more-room (suc n) (e ∷ es) (r ∷ rows) h = ap (λ rest. hit_of e ∷ rest) (no_more-room n es rows (omega arith))
 
 -- three words for each record
 words_length : (rows : List Hit) → length (words_of rows) ≡ 3 * length rows

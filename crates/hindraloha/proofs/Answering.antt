@@ -13,7 +13,7 @@ use Rattle.rules.specs.Entries.{Edited, Applied, Fed, check, edit, apply, feed, 
 use Rattle.request.specs.Answers.{zero_or_refusal}
 use Rattle.request.specs.declared.Refusal.{Refusal}
 use Rattle.serve.specs.Answers.{Answers}
-use Rattle.record.specs.Answers.{taken_of, applied_of, records_of, fed_of}
+use Rattle.record.specs.Answers.{taken_of, applied_of, refused_of, fed_of}
 use Rattle.hindraloha.specs.Entries.{answered_of}
 use Rattle.guard.proofs.Guarded.{refused_by, answered}
 
@@ -30,7 +30,7 @@ module _ (ws : List ℕ) {B : Type 0} {r : Result B Refusal} {e : Refusal} (is :
   apply_refused_whole bytes run =
       refused_by ws is err (λ m. apply_refused m ws run) (λ c p. apply_read (reads kinds bytes) c p run)
 
-  pub feed_refused : (bytes : List ℕ) → fed_of (records_of (Err e)) ws ≡ feed bytes ws
+  pub feed_refused : (bytes : List ℕ) → fed_of (refused_of e) ws ≡ feed bytes ws
   unfolding feed
   feed_refused bytes =
       refused_by ws is err (λ m. record { number = m; records = 0; taken = 0; words = ws })

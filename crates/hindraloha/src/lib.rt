@@ -12,7 +12,7 @@ ghost use Rattle.request.specs.Requests.{request_of};
 ghost use Rattle.request.specs.Answers.{number_of};
 ghost use Rattle.query.specs.Answers.{queried_of};
 ghost use Rattle.guard.specs.Flag.{end_of_flag};
-ghost use Rattle.record.specs.Answers.{taken_of, applied_of, records_of, fed_of};
+ghost use Rattle.record.specs.Answers.{taken_of, applied_of, fed_of};
 ghost use Rattle.hindraloha.specs.Entries.{edited, told, told_height, queried, answered_of, told_of};
 
 use node::SHAPE;
@@ -157,14 +157,6 @@ fn apply(pool: &mut [u64], bytes: &[u8], rows: &mut [u64]) -> Result<Applied, Re
     record::apply(pool, bytes, rows)
 }
 
-// Feeds the records to a sound pool.
-fn feed(pool: &mut [u64], bytes: &[u8]) -> Result<Records, Refusal>
-    ensures { fed_of (records_of result) pool.new ≡ feed bytes.now pool.old }
-{
-    guard::check(pool)?;
-    Ok(record::feed(pool, bytes))
-}
-
 // Formats a pool, whatever it held: all slots free.
 pub fn hindraloha_format(pool: &mut [u64]) -> Answer
     ensures { edited result pool.new ≡ format pool.old }
@@ -256,5 +248,8 @@ pub fn hindraloha_apply(pool: &mut [u64], bytes: &[u8], rows: &mut [u64]) -> Tak
 pub fn hindraloha_feed(pool: &mut [u64], bytes: &[u8]) -> Records
     ensures { fed_of result pool.new ≡ feed bytes.now pool.old }
 {
-    feed(pool, bytes).unwrap_or_else(Records::from)
+    match guard::check(pool) {
+        Ok(()) => record::feed(pool, bytes),
+        Err(refusal) => Records::from(refusal),
+    }
 }

@@ -1,3 +1,4 @@
+pub mod Arrays
 pub mod Counting
 pub mod Format
 pub mod Lines

@@ -1,5 +1,5 @@
--- What is noted of a node that is pending from now on, and of a row that was compared.
-use Rattle.std.specs.Prelude.{ℕ, ◌+◌, ◌*◌, ◌/◌, List, [], ◌∷◌, ◌++◌, length, nat_eq, nat_lt, slice_range, if◌then◌else◌}
+-- What is noted of a node that is pending from now on, of what is due no more, and of a row that was compared.
+use Rattle.std.specs.Prelude.{ℕ, ◌&&◌, ◌+◌, ◌*◌, ◌/◌, Bool, List, [], ◌∷◌, ◌++◌, length, nat_eq, nat_lt, slice_range, if◌then◌else◌}
 use Rattle.lines.specs.declared.counts.Counts.{Counts}
 use Rattle.lines.specs.declared.notes.Notes.{Notes}
 use Rattle.lines.specs.Counting.{more, one_difference, with_compared, differing_words}
@@ -12,6 +12,20 @@ with_pending slot n =
 -- one more, where there is one: slot 0 is none. One that there is no room for is a difference
 abbrev pub with_node : ℕ → Notes → Notes
 with_node slot n = (if nat_eq slot 0 then n else with_pending slot n)
+
+-- whether all rows and nodes that were due are compared
+abbrev pub all_compared : Notes → Bool
+all_compared n = nat_eq n.rows_done n.rows_due && nat_eq (length n.pending) 0
+
+-- nothing is due any more: what was due and is not compared is a difference
+abbrev pub settled : Notes → Notes
+settled n =
+    record n {
+      counts = (if all_compared n then n.counts else one_difference n.counts);
+      rows_due = 0;
+      rows_done = 0;
+      pending = [];
+    }
 
 -- the counts after row `done` of so many words is compared. One that is not in the words is a difference
 abbrev pub with_row : List ℕ → List ℕ → ℕ → Counts → Counts

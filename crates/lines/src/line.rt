@@ -1,6 +1,7 @@
 // A line of a list, taken in byte by byte.
 ghost use Rattle.std.specs.Prelude.{◌≡◌, ◌≢◌, ◌+◌, ◌-◌, ◌*◌, ◌<◌, ◌≤◌, ◌⊎◌};
 ghost use Rattle.std.specs.Prelude.{ℕ, min, List, [], ◌∷◌, ◌++◌, take, length, true, IsTrue, IsSome};
+ghost use Rattle.lines.specs.Arrays.{padded};
 ghost use Rattle.lines.specs.Lines.{Begun, Read, before_a_line};
 
 use crate::kind::Kind;
@@ -10,8 +11,9 @@ use std::marker::Model;
 pub const MOST_NUMBERS: usize = 8;
 
 // What there is of a line so far: its letter, where it has begun, its numbers, and whether it is not as it should be.
-// The numbers are an array with their count, as memory is fixed.
-#[derive(Drop)]
+// The numbers are an array with their count, as memory is fixed: behind them it has zeros, so that two lines with the same
+// numbers are the same.
+#[derive(Clone, Copy)]
 pub struct Line {
     letter: Option<u8>,
     numbers: [u64; MOST_NUMBERS],
@@ -20,11 +22,29 @@ pub struct Line {
 }
 
 impl Model for Line {
+    ghost use Rattle.std.specs.Prelude.{take, length};
+    ghost use Rattle.lines.specs.Lines.{Begun};
+    ghost use Rattle.lines.specs.Arrays.{Listed, padded, length_listed, padded_listed};
+
     ghost Value = { Begun };
 
     ghost view = { λ line. record { letter = line.letter; numbers = take line.count line.numbers; spoilt = line.spoilt } };
 
-    ghost invariant = { λ line. line.count ≤ 8 };
+    ghost invariant = { λ line. Listed 8 line.count line.numbers };
+
+    ghost inverse = { λ line. record {
+      letter = line.letter;
+      numbers = padded 8 line.numbers;
+      count = length line.numbers;
+      spoilt = line.spoilt;
+    } };
+
+    ghost inverse_ok = { λ line listed i. record {
+      letter = line.letter;
+      numbers = padded_listed 8 line.count line.numbers listed i;
+      count = length_listed 8 line.count line.numbers listed i;
+      spoilt = line.spoilt;
+    } };
 }
 
 // A number with one more digit behind it. One that is too large becomes the largest.
@@ -48,15 +68,31 @@ impl Line {
         }
     }
 
+    // Begins anew: nothing has come of the line.
+    pub fn clear(&mut self)
+        ensures { self.new ≡ before_a_line }
+    {
+        self.letter = None;
+        self.numbers = [0; MOST_NUMBERS];
+        self.count = 0;
+        self.spoilt = false;
+    }
+
     // Takes in a byte of the line: its letter first, then a space before each number and digits. A byte 0 is no letter.
     pub fn take(&mut self, byte: u8)
         ensures letter { self.old.letter ≡ None → byte ≢ 0 → self.new ≡ record self.old { letter = Some byte } }
+        ensures none { self.old.letter ≡ None → byte ≡ 0 → self.new ≡ self.old }
         ensures space { IsSome self.old.letter → byte ≡ 32 → length self.old.numbers < 8
             → self.new ≡ record self.old { numbers = self.old.numbers ++ 0 ∷ [] } }
+        ensures full { IsSome self.old.letter → byte ≡ 32 → 8 ≤ length self.old.numbers
+            → self.new ≡ record self.old { spoilt = true } }
         ensures digit { (front : List ℕ) (last : ℕ) → self.old.numbers ≡ front ++ last ∷ [] → IsSome self.old.letter
             → 48 ≤ byte → byte ≤ 57
             → self.new ≡ record self.old { numbers = front ++ min (10 * last + (byte - 48)) u64.MAX ∷ [] } }
-        ensures other { IsSome self.old.letter → byte ≢ 32 → (byte < 48) ⊎ (57 < byte) → IsTrue self.new.spoilt }
+        ensures early { IsSome self.old.letter → 48 ≤ byte → byte ≤ 57 → self.old.numbers ≡ []
+            → self.new ≡ record self.old { spoilt = true } }
+        ensures other { IsSome self.old.letter → byte ≢ 32 → (byte < 48) ⊎ (57 < byte)
+            → self.new ≡ record self.old { spoilt = true } }
         ensures spoilt { IsTrue self.old.spoilt → IsTrue self.new.spoilt }
     {
         if self.letter.is_none() {
@@ -68,13 +104,12 @@ impl Line {
         }
     }
 
-    // Begins a number.
+    // Begins a number: the word behind the others is 0.
     fn take_space(&mut self)
         ensures begun { length self.old.numbers < 8 → self.new ≡ record self.old { numbers = self.old.numbers ++ 0 ∷ [] } }
         ensures full { 8 ≤ length self.old.numbers → self.new ≡ record self.old { spoilt = true } }
     {
         if self.count < MOST_NUMBERS {
-            self.numbers[self.count] = 0;
             self.count += 1;
         } else {
             self.spoilt = true;
@@ -85,6 +120,7 @@ impl Line {
     fn take_digit(&mut self, byte: u8)
         ensures digit { (front : List ℕ) (last : ℕ) → self.old.numbers ≡ front ++ last ∷ [] → 48 ≤ byte → byte ≤ 57
             → self.new ≡ record self.old { numbers = front ++ min (10 * last + (byte - 48)) u64.MAX ∷ [] } }
+        ensures early { self.old.numbers ≡ [] → self.new ≡ record self.old { spoilt = true } }
         ensures other { (byte < 48) ⊎ (57 < byte) → self.new ≡ record self.old { spoilt = true } }
         ensures spoilt { IsTrue self.old.spoilt → IsTrue self.new.spoilt }
     {
@@ -111,10 +147,12 @@ impl Line {
         }
     }
 
-    // The line's numbers, of which as many count as its kind has.
+    // The line's numbers, of which as many count as its kind has. Behind them are zeros.
     pub fn numbers(&self) -> [u64; MOST_NUMBERS]
-        ensures { take (length self.now.numbers) result ≡ self.now.numbers }
+        ensures first { take (length self.now.numbers) result ≡ self.now.numbers }
+        ensures padded { result ≡ padded 8 self.now.numbers }
     {
-        self.numbers
+        let Line { numbers, .. } = self;
+        *numbers
     }
 }

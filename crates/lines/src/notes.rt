@@ -1,7 +1,7 @@
 // What is noted from line to line.
 ghost use Rattle.std.specs.Prelude.{◌≡◌, ◌≢◌, ◌+◌, ◌*◌, ◌/◌, ◌<◌, ◌≤◌, ◌⊎◌, ◌++◌, [], ◌∷◌, length, slice_range, false};
 ghost use Rattle.lines.specs.Counting.{nothing, one_difference, with_compared, differing_words, more};
-ghost use Rattle.lines.specs.Noted.{with_node, after_row};
+ghost use Rattle.lines.specs.Noted.{with_node, after_row, settled};
 
 use crate::counts::Counts;
 use crate::pending::Pending;
@@ -16,7 +16,7 @@ pub struct Query {
 
 // What is counted, how many words of the room are the pool, the latest query, how many rows it has and how many of them
 // were compared, and the nodes of a tree that are still to be compared.
-#[derive(Drop)]
+#[derive(Clone, Copy)]
 pub struct Notes {
     pub counts: Counts,
     pub words: usize,
@@ -53,6 +53,7 @@ impl Notes {
     pub fn in_use(&self, room: usize) -> usize
         ensures within { result ≤ room }
         ensures all { self.now.words ≤ room → result ≡ self.now.words }
+        ensures none { room < self.now.words → result ≡ 0 }
     {
         let n = self.words;
         if n > room {
@@ -92,12 +93,13 @@ impl Notes {
         ensures even { self.old.rows_done ≡ self.old.rows_due → self.old.pending ≡ [] → self.new.counts ≡ self.old.counts }
         ensures rows { self.old.rows_done ≢ self.old.rows_due → self.new.counts ≡ one_difference self.old.counts }
         ensures nodes { self.old.pending ≢ [] → self.new.counts ≡ one_difference self.old.counts }
+        ensures whole { self.new ≡ settled self.old }
     {
         if self.rows_done != self.rows_due || !self.pending.is_empty() {
             self.counts.differ();
         }
         self.rows_due = 0;
         self.rows_done = 0;
-        self.pending = Pending::new();
+        self.pending.clear();
     }
 }

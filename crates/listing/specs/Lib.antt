@@ -1,3 +1,4 @@
 pub mod Editing
+pub mod Obeyed
 pub mod Queries
 pub mod Shapes

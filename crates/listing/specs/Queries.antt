@@ -1,5 +1,5 @@
 -- The lines of a query: what is asked, and what is noted of it.
-use Rattle.std.specs.Prelude.{◌≡◌, ℕ, List, [], ◌∷◌, cond, slice_index_or}
+use Rattle.std.specs.Prelude.{◌≡◌, ℕ, List, [], ◌∷◌, cond, replicate, slice_index_or}
 use Rattle.rules.specs.Range.{excluded, included}
 use Rattle.rules.specs.Entries.{Queried, query}
 use Rattle.held.specs.declared.Hit.{Hit}
@@ -22,17 +22,24 @@ after_query q due words records n =
       rows_due = due;
     }
 
+-- a record before it is filled
+abbrev pub blank : Hit
+blank = record { start = 0; end = 0; value = 0 }
+
+-- the records that are lent: 800, and none is filled
+abbrev pub lent : List Hit
+lent = replicate 800 blank
+
 -- the words of record i, zeros where there is none
 abbrev pub row_of : List Hit → ℕ → List ℕ
 row_of rows i =
-    let row = slice_index_or rows i (record { start = 0; end = 0; value = 0 }) in
+    let row = slice_index_or rows i blank in
     row.start ∷ row.end ∷ row.value ∷ []
 
--- these are the words of a record that the query fills, of as many as are lent
+-- these are the words of record i of those that the query fills
 pub record Filled (q : Query) (pool : List ℕ) (i : ℕ) (row : List ℕ) : Type 0 where
-  pub before : List Hit
   pub after : List Hit
-  pub filled : words_of after ≡ (asked q pool (words_of before)).run
+  pub filled : words_of after ≡ (asked q pool (words_of lent)).run
   pub chosen : row ≡ row_of after i
 
 -- what is noted after a row is compared in both forms

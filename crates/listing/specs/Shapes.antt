@@ -1,9 +1,9 @@
 -- The lines of a whole tree: the words of a slot, what a node tells, and what is noted of it.
-use Rattle.std.specs.Prelude.{◌≡◌, ℕ, ◌+◌, ◌-◌, ◌*◌, ◌/◌, ◌%◌, ◌≤◌, List, [], ◌∷◌, length, slice_index, slice_range, nat_eq, if◌then◌else◌, Option, MatchOption}
+use Rattle.std.specs.Prelude.{◌≡◌, ℕ, ◌+◌, ◌-◌, ◌*◌, ◌/◌, ◌%◌, ◌≤◌, List, [], ◌∷◌, ◌++◌, length, slice_get, slice_index, slice_range, nat_eq, if◌then◌else◌, Option, Some, None, MatchOption}
 use Rattle.rules.specs.Limits.{most_slots, header_words, slot_words, half}
 use Rattle.rules.specs.Entries.{size_of}
 use Rattle.lines.specs.declared.notes.Notes.{Notes}
-use Rattle.lines.specs.Counting.{with_compared, differing_words}
+use Rattle.lines.specs.Counting.{one_difference, with_compared, differing_words}
 use Rattle.lines.specs.Noted.{with_node}
 
 -- where the words of a slot begin
@@ -50,3 +50,17 @@ after_node ws numbers n =
 abbrev pub after_size : List ℕ → ℕ → Notes → Notes
 after_size pool due n =
     record n { counts = with_compared 1 (differing_words ((size_of pool).told ∷ []) (due ∷ [])) n.counts }
+
+-- what is noted before and after the line of a tree: the size is compared, and the root is pending, if the pool has a word
+pub record TreeNoted (pool : List ℕ) (due : ℕ) (before after : Notes) : Type 0 where
+  pub none : slice_get pool 0 ≡ None → after ≡ after_size pool due before
+  pub root : (slot : ℕ) → slice_get pool 0 ≡ Some slot → after ≡ with_node slot (after_size pool due before)
+
+-- what is noted before and after the line of a node: the latest pending one is compared. Where none is pending, or the pool
+-- has no such slot, that is a difference
+pub record NodeNoted (pool numbers : List ℕ) (before after : Notes) : Type 0 where
+  pub none : before.pending ≡ [] → after ≡ record before { counts = one_difference before.counts }
+  pub node : (front : List ℕ) (slot : ℕ) → before.pending ≡ front ++ slot ∷ [] → Has pool slot
+      → after ≡ after_node (slice_range pool (place slot) (place slot + slot_words)) numbers (record before { pending = front })
+  pub lost : (front : List ℕ) (slot : ℕ) → before.pending ≡ front ++ slot ∷ [] → (Has pool slot → ⊥)
+      → after ≡ record before { counts = one_difference before.counts; pending = front }

@@ -88,6 +88,8 @@ pub fn node(pool: &[u64], numbers: [u64; MOST_NUMBERS], notes: &mut Notes)
     ensures node { (front : List ℕ) (slot : ℕ) → notes.old.pending ≡ front ++ slot ∷ [] → Has pool.now slot
         → notes.new ≡ after_node (slice_range pool.now (place slot) (place slot + slot_words)) numbers
         (record notes.old { pending = front }) }
+    ensures lost { (front : List ℕ) (slot : ℕ) → notes.old.pending ≡ front ++ slot ∷ [] → (Has pool.now slot → ⊥)
+        → notes.new ≡ record notes.old { counts = one_difference notes.old.counts; pending = front } }
 {
     match next(pool, &mut notes.pending) {
         Some(words) => compare(words, numbers, notes),

@@ -6,7 +6,7 @@ ghost use Rattle.std.proofs.Math.Option.{some};
 ghost use Rattle.rules.specs.Record.{metre, u32_at, u64_at, insert_by, insert_exact};
 ghost use Rattle.rules.specs.Record.{kinds, feed_kinds, reads_kind, reads};
 ghost use Rattle.request.specs.Requests.{end_of, request_of};
-ghost use Rattle.reading.specs.Reading.{row_of, Finds, reading_of};
+ghost use Rattle.reading.specs.Reading.{row_of, row, fixed_length, said, kind_number, Finds, reading_of};
 
 use request::{End, Refusal, Request, Stretch};
 
@@ -129,7 +129,8 @@ impl Kind {
 
     // How long the body is.
     pub fn body_length(self) -> usize
-        ensures { result ≡ (row_of self).body_length }
+        ensures own { result ≡ (row_of self).body_length }
+        ensures by_number { fixed_length (row (kind_number self)) ≡ some result }
     {
         match self {
             Kind::InsertMetres | Kind::InsertLinks => 16,
@@ -142,7 +143,8 @@ impl Kind {
     // What a whole body asks.
     pub fn means(self, body: &[u8]) -> Request
         requires { (row_of self).body_length ≤ length body.now }
-        ensures { request_of result ≡ (row_of self).means body.now }
+        ensures own { request_of result ≡ (row_of self).means body.now }
+        ensures by_number { said (row (kind_number self)) body.now ≡ some (request_of result) }
     {
         match self {
             Kind::InsertMetres => insert_by(METRE, body),

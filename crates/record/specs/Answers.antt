@@ -19,9 +19,8 @@ applied_of r after run =
     record { number = r.number; taken = r.taken; count = r.hits; words = after; run = run }
 
 -- "A feed checks the pool once, then applies records"; "0 and 0 with 10 or 11"
-abbrev pub records_of : Result Records Refusal → Records
-records_of (Ok r) = r
-records_of (Err refusal) = record { number = refusal_number refusal; records = 0; taken = 0 }
+abbrev pub refused_of : Refusal → Records
+refused_of refusal = record { number = refusal_number refusal; records = 0; taken = 0 }
 
 -- a number, the records applied and their bytes, with all words of the pool
 abbrev pub fed_of : Records → List ℕ → rules.Fed

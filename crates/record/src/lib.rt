@@ -1,13 +1,13 @@
 // Survey records to a sound pool: one record applied, and a feed of them. That the pool is sound is a clause, as in `serve`.
 #![tactic(auto)]
 
-ghost use Rattle.std.specs.Prelude.{◌≡◌, ◌≤◌, length, Err};
+ghost use Rattle.std.specs.Prelude.{◌≡◌, ◌≤◌, length};
 ghost use Rattle.rules.specs.Pool.{Pool, Holds, capacity};
 ghost use Rattle.rules.specs.Record.{kinds, reads};
 ghost use Rattle.rules.specs.Request.{serve};
 ghost use Rattle.rules.specs.Feed.{feed_turns};
 ghost use Rattle.rules.specs.Entries.{apply_read, fed};
-ghost use Rattle.record.specs.Answers.{taken_of, applied_of, records_of, fed_of};
+ghost use Rattle.record.specs.Answers.{taken_of, applied_of, refused_of, fed_of};
 ghost use Rattle.record.specs.Applying.{Turned};
 
 use request::{Outcome, Refusal, Request};
@@ -59,7 +59,7 @@ impl From<Result<Applied, Refusal>> for Taken {
 }
 
 impl From<Refusal> for Records {
-    ghost from_gives = { λ refusal it. it ≡ records_of (Err refusal) };
+    ghost from_gives = { λ refusal it. it ≡ refused_of refusal };
 
     // A feed that is refused as a whole applies no record.
     fn from(refusal: Refusal) -> Records {

@@ -94,6 +94,14 @@ pub fn number_of(answer: Result<Outcome, Refusal>) -> u64
     }
 }
 
+// Whether a number is a refusal: the request or record that is answered with it changed no word. For whoever has an entry's
+// number, and no `Outcome` or `Refusal`.
+pub fn is_refusal(number: u64) -> bool
+    ensures { result ≡ is_refusal number }
+{
+    10 <= number
+}
+
 impl Stretch {
     // The range that is named: refused where the end is included and past the last number.
     pub fn range(self) -> Result<Interval, Refusal>

@@ -108,6 +108,7 @@ pub trait Change {
 }
 
 // One entry more, which has the end.
+#[derive(Clone, Copy)]
 pub struct Gain;
 
 impl Change for Gain {
@@ -134,6 +135,7 @@ impl Change for Gain {
 }
 
 // One entry less, which had the end.
+#[derive(Clone, Copy)]
 pub struct Loss;
 
 // The max of slot k over children l and r when an entry with that end has gone from below it: only where that end was

@@ -126,6 +126,24 @@ pub fn step(slots: &[u64], stack: &mut [u64; MOST_PENDING], place: Place, query:
     }
 }
 
+// The walk's next hit, and where it stands then: steps until one hits or nothing is pending. Where this and the `next` below
+// are not inlined, a query takes three tenths more instructions.
+#[inline]
+pub fn next(slots: &[u64], stack: &mut [u64; MOST_PENDING], place: Place, query: Interval) -> After
+    requires { (p : Pending) × Stands slots.now stack.old place p }
+    ensures { (p : Pending) → Stands slots.now stack.old place p → Leaves slots.now stack.new result (next (range_of query) p) }
+{
+    let mut place = place;
+    while place.pending > 0 {
+        let after = step(slots, stack, place, query);
+        if after.hit.is_some() {
+            return after;
+        }
+        place = after.place;
+    }
+    After { place, hit: None }
+}
+
 // A walk on a lent stack: the slots that it reads, what is asked, the stack, and where it stands. It gives the slots that
 // are hit.
 #[derive(Drop)]
@@ -145,37 +163,11 @@ impl<'a, 'b> Iterator for Walk<'a, 'b> {
 
     ghost remaining = { λ w. at_most (entries_at w.slots.now (take w.place.pending w.stack.now)) };
 
-    // The next hit: steps until one hits or nothing is pending. Where it stands is a local on the way, which stays in a
-    // register.
+    // The next hit's slot.
+    #[inline]
     fn next(&mut self) -> Option<u64> {
-        let mut place = self.place;
-        while place.pending > 0 {
-            let after = step(self.slots, self.stack, place, self.query);
-            place = after.place;
-            if after.hit.is_some() {
-                self.place = place;
-                return after.hit;
-            }
-        }
-        self.place = place;
-        None
-    }
-}
-
-// The walk's next hit, for whoever has no struct that lends its stack: where it stands then.
-pub fn next(slots: &[u64], stack: &mut [u64; MOST_PENDING], place: Place, query: Interval) -> After
-    requires { (p : Pending) × Stands slots.now stack.old place p }
-    ensures { (p : Pending) → Stands slots.now stack.old place p → Leaves slots.now stack.new result (next (range_of query) p) }
-{
-    let mut walk = Walk {
-        slots,
-        query,
-        stack,
-        place,
-    };
-    let hit = walk.next();
-    After {
-        place: walk.place,
-        hit,
+        let after = next(self.slots, self.stack, self.place, self.query);
+        self.place = after.place;
+        after.hit
     }
 }

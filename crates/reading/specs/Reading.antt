@@ -5,7 +5,7 @@ use Rattle.rules.specs.Range.{excluded, included}
 use Rattle.rules.specs.Balance.{left, right}
 use Rattle.rules.specs.Request.{Request, deleting, deleting_end, clearing, querying}
 use Rattle.rules.specs.Record as found
-use Rattle.rules.specs.Record.{metre, link, insert_by, insert_exact, with_pair, bare, kinds, whole, unknown, cut_short}
+use Rattle.rules.specs.Record.{metre, link, insert_by, insert_exact, with_pair, bare, kinds, feed_kinds, whole, unknown, cut_short}
 use Rattle.request.specs.Requests.{request_of}
 use Rattle.request.specs.declared.Refusal.{Refusal}
 use Rattle.request.specs.declared.Refusal.TheVariants.{WrongLength, Unsound, PastEnd, Full, UnknownKind, CutShort}
@@ -29,6 +29,10 @@ row_of Query = with_pair (querying excluded)
 abbrev pub row : ℕ → Option found.Kind
 row kind = get_or kinds kind none
 
+-- and where the table of a feed has one
+abbrev pub feed_row : ℕ → Option found.Kind
+feed_row kind = get_or feed_kinds kind none
+
 -- "a body whose length the kind fixes": what a row fixes
 abbrev pub fixed_length : Option found.Kind → Option ℕ
 fixed_length none = none
@@ -51,10 +55,10 @@ kind_number DeleteMax = 7
 kind_number Clear = 8
 kind_number Query = 9
 
--- what a table has for a byte: the kind of that number and its row, or no row, and then the kind is unknown
-abbrev pub Finds : List (Option found.Kind) → ℕ → Result Kind Refusal → Type 0
-Finds table byte (Ok kind) = (byte ≡ kind_number kind) × (get_or table byte none ≡ some (row_of kind))
-Finds table byte (Err refusal) = (get_or table byte none ≡ none) × (refusal ≡ UnknownKind)
+-- what is found for a byte: the kind of that number, whose row it has, or no row, and then the kind is unknown
+abbrev pub Finds : Option found.Kind → ℕ → Result Kind Refusal → Type 0
+Finds its_row byte (Ok kind) = (byte ≡ kind_number kind) × (its_row ≡ some (row_of kind))
+Finds its_row byte (Err refusal) = (its_row ≡ none) × (refusal ≡ UnknownKind)
 
 -- a whole record with the bytes that it takes, 14 and 15; no other refusal stands for anything that is found
 abbrev pub reading_of : Result Record Refusal → Option found.Reading

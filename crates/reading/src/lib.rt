@@ -6,7 +6,7 @@ ghost use Rattle.std.proofs.Math.Option.{some};
 ghost use Rattle.rules.specs.Record.{metre, u32_at, u64_at, insert_by, insert_exact};
 ghost use Rattle.rules.specs.Record.{kinds, feed_kinds, reads_kind, reads};
 ghost use Rattle.request.specs.Requests.{end_of, request_of};
-ghost use Rattle.reading.specs.Reading.{row_of, row, fixed_length, said, kind_number, Finds, reading_of};
+ghost use Rattle.reading.specs.Reading.{row_of, row, feed_row, fixed_length, said, kind_number, Finds, reading_of};
 
 use request::{End, Refusal, Request, Stretch};
 
@@ -97,7 +97,7 @@ fn insert_exact(bound: End, body: &[u8]) -> Request
 impl TryFrom<u8> for Kind {
     type Error = Refusal;
 
-    ghost try_from_gives = { λ byte found. Finds kinds byte found };
+    ghost try_from_gives = { λ byte found. Finds (row byte) byte found };
 
     // The kind that a record begins with.
     fn try_from(byte: u8) -> Result<Kind, Refusal> {
@@ -119,7 +119,7 @@ impl TryFrom<u8> for Kind {
 impl Kind {
     // The kind that a record of a feed begins with: a query is unknown there.
     pub fn in_feed(byte: u8) -> Result<Kind, Refusal>
-        ensures { Finds feed_kinds byte result }
+        ensures { Finds (feed_row byte) byte result }
     {
         match Kind::try_from(byte)? {
             Kind::Query => Err(Refusal::UnknownKind),
